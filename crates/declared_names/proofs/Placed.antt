@@ -1,9 +1,9 @@
--- One more name, before those that have been placed.
-use Rattle.std.proofs.Common.{◌≡◌, ℕ, ◌+◌, ◌<◌, Bool, true, false, cond, List, bytes_eq, map, drop, length, get_or, Option, Some, unwrap_or, Bor, sym, ap, ◌∙◌, arith}
+-- Where names stand: one more before those that have been placed, and at most behind all.
+use Rattle.std.proofs.Common.{◌≡◌, ℕ, suc, ◌+◌, ◌<◌, ◌≤◌, Bool, true, false, cond, List, [], ◌∷◌, bytes_eq, map, drop, length, get_or, Option, Some, unwrap_or, Bor, sym, ap, ◌∙◌, arith}
 use Rattle.std.proofs.lemmas.List.{at_drop_more}
 use Rattle.std.proofs.lemmas.Map.Text.{hash_map_updates_str}
 use Rattle.std.specs.HashMap.{HashMap, UpdatesBy, get_by}
-use Rattle.declared_names.specs.Names.{position_in, text_of}
+use Rattle.declared_names.specs.Names.{Names, position_in, text_of}
 
 chosen : (same : Bool) (rest : Option ℕ) (count j left : ℕ) → unwrap_or rest count ≡ (j + 1) + left → unwrap_or (cond same (Some j) rest) count ≡ j + cond same 0 (1 + left)
 chosen true rest count j left h = omega arith
@@ -20,3 +20,11 @@ placed names j name m n count h is put before q =
     ∙ chosen (bytes_eq name.now q) (get_by (λ k. bytes_eq q k.now) m) count j (position_in (map text_of (drop (j + 1) names)) q) (before q)
     ∙ ap (λ t. j + cond (bytes_eq t q) 0 (1 + position_in (map text_of (drop (j + 1) names)) q)) is
     ∙ ap (λ p. j + p) (sym left)
+
+pub position_most : (ns : Names) (name : List ℕ) → position_in ns name ≤ length ns
+position_most [] name = omega arith
+position_most (n ∷ ns) name = by (bytes_eq n name) (position_most ns name)
+  where
+    by : (b : Bool) → position_in ns name ≤ length ns → cond b 0 (1 + position_in ns name) ≤ suc (length ns)
+    by true h = omega arith
+    by false h = omega (arith, h)

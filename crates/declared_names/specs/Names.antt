@@ -1,5 +1,5 @@
 -- Names, and where they stand.
-use Rattle.std.specs.Prelude.{ℕ, ◌+◌, List, [], ◌∷◌, map, bytes_eq, codes, if◌then◌else◌, slice_get, Option, Some, None}
+use Rattle.std.specs.Prelude.{ℕ, ◌+◌, List, [], ◌∷◌, Bool, false, map, length, nat_lt, bytes_eq, codes, if◌then◌else◌, slice_get, Option, Some, None}
 use Rattle.std.specs.Borrow.{Bor}
 use Rattle.serde_json.specs.Data.{Data}
 use Rattle.declared_names.specs.Values.{text_at, text_in}
@@ -20,6 +20,17 @@ position_among (Some ns) name = position_in ns name
 
 abbrev pub position_at : List Names → ℕ → List ℕ → ℕ
 position_at lists i name = position_among (slice_get lists i) name
+
+-- the name is one of them, and one of those in the list at a position
+abbrev pub has_name : Names → List ℕ → Bool
+has_name ns name = nat_lt (position_in ns name) (length ns)
+
+abbrev pub has_among : Option Names → List ℕ → Bool
+has_among None name = false
+has_among (Some ns) name = has_name ns name
+
+abbrev pub has_at : List Names → ℕ → List ℕ → Bool
+has_at lists i name = has_among (slice_get lists i) name
 
 -- the short names of what is declared in a list
 abbrev pub short_names : List Data → Names

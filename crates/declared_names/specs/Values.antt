@@ -36,6 +36,11 @@ text_at key d = unwrap_or (option_and_then as_str (get key d)) []
 abbrev pub text_at_in : (outer : List ℕ) → (key : List ℕ) → Data → List ℕ
 text_at_in outer key d = unwrap_or (option_and_then as_str (option_and_then (get key) (get outer d))) []
 
+-- the texts of all parts
+abbrev pub texts_of : Items → List (List ℕ)
+texts_of no_items = []
+texts_of (item d ds) = text_in d ∷ texts_of ds
+
 abbrev pub text_of_part : ℕ → Data → List ℕ
 text_of_part i d = unwrap_or (option_and_then as_str (at i d)) []
 

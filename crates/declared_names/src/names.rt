@@ -2,7 +2,7 @@
 
 ghost use Rattle.std.specs.Prelude.{◌≡◌, ◌<◌, ◌^◌, IfOk, length, map};
 ghost use Rattle.serde_json.specs.View.{view};
-ghost use Rattle.declared_names.specs.Names.{position_at, position_in, short_names, text_of, texts};
+ghost use Rattle.declared_names.specs.Names.{has_at, has_name, position_at, position_in, short_names, text_of, texts};
 ghost use Rattle.declared_names.specs.Sizes.{IsSmall};
 ghost use Rattle.declared_names.specs.Values.{items_at};
 
@@ -13,45 +13,38 @@ use serde_json::Value;
 use std::alloc::Global;
 use std::marker::Model;
 
-/// The names of a list, with where each stands.
+/// The names of a list, however long it is, with where each stands.
 #[derive(Drop)]
-pub struct Positions<'a> {
+pub struct NameList<'a> {
     names: Vec<&'a str>,
-    places: IndexMap<&'a str, u32>,
-    count: u32,
+    places: IndexMap<&'a str, usize>,
 }
 
-impl<'a> Model for Positions<'a> {
+impl<'a> Model for NameList<'a> {
     ghost use Rattle.std.specs.Prelude.{◌≡◌, ℕ, List, bytes_eq, length, map, unwrap_or};
     ghost use Rattle.indexmap.specs.IndexMap.{get_by};
-    ghost use Rattle.declared_names.specs.Names.{position_at, position_in, text_of};
+    ghost use Rattle.declared_names.specs.Names.{position_in, text_of};
 
     ghost Value = { List (List ℕ) };
 
     ghost view = { λ p. map text_of p.names.items };
 
-    ghost invariant = { λ p. (p.count ≡ length (map text_of p.names.items))
-        × ((name : List ℕ) → unwrap_or (get_by (λ k. bytes_eq name k.now) p.places) p.count ≡ position_in (map text_of p.names.items) name) };
+    ghost invariant = { λ p. (name : List ℕ) →
+        unwrap_or (get_by (λ k. bytes_eq name k.now) p.places) (length p.names.items) ≡ position_in (map text_of p.names.items) name };
 }
 
-impl<'a> Positions<'a> {
-    /// The positions of these names, of which there are fewer than 2^32; the first one's if a name is doubled.
-    pub fn of(alloc: Global, names: Vec<&'a str>) -> Result<Positions<'a>, Memory>
-        requires { length names.items < 2 ^ 32 }
+impl<'a> NameList<'a> {
+    /// The list of these names. A name that is doubled stands where the first one does.
+    pub fn of(alloc: Global, names: Vec<&'a str>) -> Result<NameList<'a>, Memory>
         ensures { IfOk result (λ p. p ≡ map text_of names.entry.items) }
     {
-        let count = names.len() as u32;
         let mut places = IndexMap::new(alloc);
         let mut left = names.len();
         while left > 0 {
             left -= 1;
-            places.insert(names[left], left as u32)?;
+            places.insert(names[left], left)?;
         }
-        Ok(Positions {
-            names,
-            places,
-            count,
-        })
+        Ok(NameList { names, places })
     }
 
     /// The names.
@@ -62,20 +55,86 @@ impl<'a> Positions<'a> {
     }
 
     /// How many names there are.
-    pub fn count(&self) -> u32
+    pub fn count(&self) -> usize
         ensures { result ≡ length self.now }
     {
-        self.count
+        self.names.len()
     }
 
-    /// Where the name stands, and how many names there are if it is none of them.
-    pub fn find(&self, name: &str) -> u32
+    /// Where the name stands, and how many names there are where it is none of them.
+    pub fn find(&self, name: &str) -> usize
         ensures { result ≡ position_in self.now name.now }
     {
         match self.places.get(name) {
             Some(position) => *position,
-            None => self.count,
+            None => self.names.len(),
         }
+    }
+
+    /// Whether the name is one of them.
+    pub fn has(&self, name: &str) -> bool
+        ensures { result ≡ has_name self.now name.now }
+    {
+        self.find(name) < self.count()
+    }
+}
+
+/// Whether the list of this position has the name.
+pub fn has_at(lists: &[NameList], position: usize, name: &str) -> bool
+    ensures { result ≡ has_at lists.now position name.now }
+{
+    match lists.get(position) {
+        Some(names) => names.has(name),
+        None => false,
+    }
+}
+
+/// The names of a list of fewer than 2^32, with where each stands.
+#[derive(Drop)]
+pub struct Positions<'a> {
+    list: NameList<'a>,
+}
+
+impl<'a> Model for Positions<'a> {
+    ghost use Rattle.std.specs.Prelude.{ℕ, ◌<◌, ◌^◌, List, length};
+
+    ghost Value = { List (List ℕ) };
+
+    ghost view = { λ p. p.list };
+
+    ghost invariant = { λ p. length p.list < 2 ^ 32 };
+}
+
+impl<'a> Positions<'a> {
+    /// The positions of these names, of which there are fewer than 2^32; the first one's if a name is doubled.
+    pub fn of(alloc: Global, names: Vec<&'a str>) -> Result<Positions<'a>, Memory>
+        requires { length names.items < 2 ^ 32 }
+        ensures { IfOk result (λ p. p ≡ map text_of names.entry.items) }
+    {
+        let list = NameList::of(alloc, names)?;
+        Ok(Positions { list })
+    }
+
+    /// The names.
+    pub fn names(&self) -> &[&'a str]
+        ensures { map text_of result.now ≡ self.now }
+    {
+        self.list.names()
+    }
+
+    /// How many names there are.
+    pub fn count(&self) -> u32
+        ensures { result ≡ length self.now }
+    {
+        self.list.count() as u32
+    }
+
+    /// Where the name stands, and how many names there are if it is none of them.
+    #[tactic(auto, using(crate::proofs::Placed::position_most))]
+    pub fn find(&self, name: &str) -> u32
+        ensures { result ≡ position_in self.now name.now }
+    {
+        self.list.find(name) as u32
     }
 }
 

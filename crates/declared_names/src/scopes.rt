@@ -46,7 +46,7 @@ pub struct Scope<'a> {
     pub prototypes: PrototypeNames<'a>,
 }
 
-fn item_names<'a>(alloc: Global, value: &'a Value) -> Result<Vec<&'a str>, Memory>
+pub(crate) fn item_names<'a>(alloc: Global, value: &'a Value) -> Result<Vec<&'a str>, Memory>
     ensures { IfOk result (λ names. map text_of names.items ≡ item_names (view value.now)) }
 {
     let kind = text_at(value, "kind");

@@ -4,16 +4,15 @@ use Rattle.std.proofs.lemmas.Bool.{false≢true, and_parts}
 use Rattle.std.specs.List.{find, flat_map}
 use Rattle.serde_json.specs.Data.{Data, null, boolean, number, string, array, object, Items, no_items, item, Members}
 use Rattle.serde_json.specs.Find.{as_number, as_str, get_member}
+use Rattle.declared_names.specs.declared.catalogs.Catalog.{Catalog}
 use Rattle.description_places.specs.declared.form.Form.{Form}
 use Rattle.description_places.specs.declared.form.Form.TheVariants as form
 use Rattle.description_places.specs.declared.kind.Kind.{Kind}
 use Rattle.description_places.specs.declared.kind.Kind.TheVariants as kind
 use Rattle.description_places.specs.Alternatives.{Choice, choices_of, first_word, kind_of, pick_if, resolved}
 use Rattle.description_places.specs.Calculations.{Calculation, assignment, expression, constant, name, operator, unknown, other, kind_in, IsCalculation, Passes}
-use Rattle.description_places.specs.Around.{named}
-use Rattle.description_places.specs.Declarations.{Declared, declarations, declared_at, declared_by, list_of, name_of}
+use Rattle.description_places.specs.Distinct.{breaks_distinct, is_repeated}
 use Rattle.description_places.specs.Forms.{form_of}
-use Rattle.description_places.specs.Gathered.{Gathered, gathered_after}
 use Rattle.description_places.specs.Keys.{Key, keys_of}
 use Rattle.description_places.specs.References.{breaks_references, is_found}
 use Rattle.description_places.specs.Skips.{is_plain, is_declared_kind, declares_nothing, is_referring_kind, refers_to_nothing, Skips}
@@ -164,7 +163,7 @@ module _ (X : Type 0) (look : Visit → List X) (nothing : (c : Calculation) (v 
         (in_calculation d (part_of (form_of (kind_in c)) (kind_in c) i) (spots i) is.0 (ap (λ k. resolved k d) here.1 ∙ is.1))
         (in_its_parts ds c spots (i + 1))
 
-  -- ---- what they declare, and what breaks the rule of references
+  -- ---- a plain value
 
   in_plain : (d : Data) (k : Kind) (s : Spot) → is_plain (form_of k) ≡ true → look (visit_at s k d) ≡ [] → flat_map look (visits d k s) ≡ []
   in_plain null k s plain none = both (ap (λ q. look (visit_at s q null)) (plain_same k null plain) ∙ none) refl
@@ -179,51 +178,7 @@ module _ (X : Type 0) (look : Visit → List X) (nothing : (c : Calculation) (v 
       (ap (λ q. flat_map look (in_object q (object ms) s (members_visits ms))) (plain_same k (object ms) plain)
       ∙ ap (λ ks. flat_map look (under_keys ks (inside s k (object ms)) (members_visits ms))) (plain_keys k plain))
 
-not_declared : (c : Calculation) (v : Visit) → v.kind ≡ kind_in c → declared_by v ≡ []
-not_declared c v is = ap (λ k. declared_by (record { place = v.place; kind = k; value = v.value; around = v.around })) is ∙ by c
-  where
-    by : (c : Calculation) → declared_by (record { place = v.place; kind = kind_in c; value = v.value; around = v.around }) ≡ []
-    by assignment = refl
-    by expression = refl
-    by constant = refl
-    by name = refl
-    by operator = refl
-    by unknown = refl
-    by other = refl
-
-pub nothing_declared : (kind : Kind) (d : Data) (k : Kind) (s : Spot) (g : Gathered) → IsCalculation kind → kind ≡ resolved k d → g ≡ gathered_after g (declarations (visits d k s))
-nothing_declared kind d k s g calculation is = sym (ap (gathered_after g) (in_calculation Declared declared_by not_declared d k s calculation.0 (sym is ∙ calculation.1)))
-
-declares_plain : (k : Kind) → declares_nothing k ≡ true → is_plain (form_of k) ≡ true
-declares_plain k h = (and_parts (is_plain (form_of k)) (not (is_declared_kind k)) h).0
-
-not_listed : (k : Kind) (around : List Level) → declares_nothing k ≡ true → list_of k around ≡ None
-not_listed kind.DeclaredName around h = absurd (false≢true h)
-not_listed kind.DeclaredMode around h = absurd (false≢true h)
-not_listed kind.DeclaredArea around h = absurd (false≢true h)
-not_listed kind.ComSpecItem around h = absurd (false≢true h)
-not_listed kind.Position around h = absurd (false≢true h)
-not_listed kind.ItemAccess around h = absurd (false≢true h)
-not_listed kind.VariableAccess around h = absurd (false≢true h)
-not_listed kind.PortAccess around h = absurd (false≢true h)
-not_listed kind.AreaAccess around h = absurd (false≢true h)
-not_listed _ around h = refl
-
-plain_declares : (k : Kind) (d : Data) (s : Spot) → declares_nothing k ≡ true → declarations (visits d k s) ≡ []
-plain_declares k d s h =
-    in_plain Declared declared_by not_declared d k s (declares_plain k h)
-    (ap (λ o. declared_at (visit_at s k d) (option_map (λ list. named list (name_of k d s.around)) o)) (not_listed k s.around h))
-
--- at a key whose values declare nothing
-pub nothing_at_key : (key : Key) (spots : List ℕ → Spot) (ms : Members) (g : Gathered) → declares_nothing key.kind ≡ true
-    → g ≡ gathered_after g (declarations (at_key key spots (members_visits ms)))
-nothing_at_key key spots ms g h = sym (ap (λ vs. gathered_after g (declarations vs)) (at_key_found key spots ms) ∙ by (get_member key.name ms))
-  where
-    by : (o : Option Data) → gathered_after g (declarations (visits_at key spots o)) ≡ g
-    by None = refl
-    by (Some d) = ap (gathered_after g) (plain_declares key.kind d (spots key.name) h)
-
--- the same of a rule that skips it
+-- at a key whose values the rule skips
 pub none_at_key : (breaks : Visit → Bool) (key : Key) (spots : List ℕ → Spot) (ms : Members) → Skips breaks key.kind
     → None ≡ first_broken breaks (at_key key spots (members_visits ms))
 none_at_key breaks key spots ms skips = sym (ap (first_broken breaks) (at_key_found key spots ms) ∙ by (get_member key.name ms))
@@ -232,17 +187,37 @@ none_at_key breaks key spots ms skips = sym (ap (first_broken breaks) (at_key_fo
     by None = refl
     by (Some d) = skips d (spots key.name)
 
-refers_plain : (k : Kind) → refers_to_nothing k ≡ true → is_plain (form_of k) ≡ true
-refers_plain k h = (and_parts (is_plain (form_of k)) (not (is_referring_kind k)) h).0
+-- ---- a rule that nothing in a calculation breaks
 
-module _ (ds : List Declared) where
+module _ (breaks : Visit → Bool) (never : (c : Calculation) (v : Visit) → v.kind ≡ kind_in c → breaks v ≡ false) where
   abbrev broken_at : Visit → List (List ℕ)
-  broken_at v = cond (breaks_references ds v) (v.place ∷ []) []
+  broken_at v = cond (breaks v) (v.place ∷ []) []
 
-  refers_nowhere : (c : Calculation) (v : Visit) → v.kind ≡ kind_in c → broken_at v ≡ []
-  refers_nowhere c v is = ap (λ k. broken_at (record { place = v.place; kind = k; value = v.value; around = v.around })) is ∙ by c
+  nowhere : (c : Calculation) (v : Visit) → v.kind ≡ kind_in c → broken_at v ≡ []
+  nowhere c v is = ap (λ b. cond b (v.place ∷ []) []) (never c v is)
+
+  none_broken : (vs : List Visit) → flat_map broken_at vs ≡ [] → first_broken breaks vs ≡ None
+  none_broken [] none = refl
+  none_broken (v ∷ vs) none = by (breaks v) none (λ rest. none_broken vs rest)
     where
-      by : (c : Calculation) → broken_at (record { place = v.place; kind = kind_in c; value = v.value; around = v.around }) ≡ []
+      by : (b : Bool) → cond b (v.place ∷ []) [] ++ flat_map broken_at vs ≡ [] → (flat_map broken_at vs ≡ [] → first_broken breaks vs ≡ None)
+          → option_map (λ u. u.place) (cond b (Some v) (find breaks vs)) ≡ None
+      by true none later = absurd cc
+      by false none later = later none
+
+  passes : (kind : Kind) → IsCalculation kind → Passes breaks kind
+  passes kind calculation = λ k d s is. none_broken (visits d k s) (in_calculation (List ℕ) broken_at nowhere d k s calculation.0 (is ∙ calculation.1))
+
+  skips : (kind : Kind) → is_plain (form_of kind) ≡ true → ((d : Data) (s : Spot) → breaks (visit_at s kind d) ≡ false) → Skips breaks kind
+  skips kind plain unbroken = λ d s. none_broken (visits d kind s) (in_plain (List ℕ) broken_at nowhere d kind s plain (ap (λ b. cond b (s.place ∷ []) []) (unbroken d s)))
+
+module _ (names : Catalog) where
+  -- ---- nothing in it is repeated
+
+  never_repeated : (c : Calculation) (v : Visit) → v.kind ≡ kind_in c → breaks_distinct names v ≡ false
+  never_repeated c v is = ap (λ k. is_repeated names k v.value v.around) is ∙ by c
+    where
+      by : (c : Calculation) → is_repeated names (kind_in c) v.value v.around ≡ false
       by assignment = refl
       by expression = refl
       by constant = refl
@@ -251,19 +226,42 @@ module _ (ds : List Declared) where
       by unknown = refl
       by other = refl
 
-  none_broken : (vs : List Visit) → flat_map broken_at vs ≡ [] → first_broken (breaks_references ds) vs ≡ None
-  none_broken [] none = refl
-  none_broken (v ∷ vs) none = by (breaks_references ds v) none (λ rest. none_broken vs rest)
+  pub distinct_pass : (kind : Kind) → IsCalculation kind → Passes (breaks_distinct names) kind
+  distinct_pass kind calculation = passes (breaks_distinct names) never_repeated kind calculation
+
+  undeclared : (k : Kind) (d : Data) (around : List Level) → declares_nothing k ≡ true → is_repeated names k d around ≡ false
+  undeclared kind.DeclaredName d around h = absurd (false≢true h)
+  undeclared kind.DeclaredMode d around h = absurd (false≢true h)
+  undeclared kind.DeclaredArea d around h = absurd (false≢true h)
+  undeclared kind.ComSpecItem d around h = absurd (false≢true h)
+  undeclared kind.Position d around h = absurd (false≢true h)
+  undeclared kind.ItemAccess d around h = absurd (false≢true h)
+  undeclared kind.VariableAccess d around h = absurd (false≢true h)
+  undeclared kind.PortAccess d around h = absurd (false≢true h)
+  undeclared kind.AreaAccess d around h = absurd (false≢true h)
+  undeclared _ d around h = refl
+
+  pub distinct_skip : (kind : Kind) → declares_nothing kind ≡ true → Skips (breaks_distinct names) kind
+  distinct_skip kind h = skips (breaks_distinct names) never_repeated kind (and_parts (is_plain (form_of kind)) (not (is_declared_kind kind)) h).0 (λ d s. undeclared kind d s.around h)
+
+  -- ---- nothing in it refers
+
+  never_refers : (c : Calculation) (v : Visit) → v.kind ≡ kind_in c → breaks_references names v ≡ false
+  never_refers c v is = ap (λ k. not (is_found names k v.value v.around)) is ∙ by c
     where
-      by : (b : Bool) → cond b (v.place ∷ []) [] ++ flat_map broken_at vs ≡ [] → (flat_map broken_at vs ≡ [] → first_broken (breaks_references ds) vs ≡ None)
-          → option_map (λ u. u.place) (cond b (Some v) (find (breaks_references ds) vs)) ≡ None
-      by true none later = absurd cc
-      by false none later = later none
+      by : (c : Calculation) → not (is_found names (kind_in c) v.value v.around) ≡ false
+      by assignment = refl
+      by expression = refl
+      by constant = refl
+      by name = refl
+      by operator = refl
+      by unknown = refl
+      by other = refl
 
-  pub references_pass : (kind : Kind) → IsCalculation kind → Passes (breaks_references ds) kind
-  references_pass kind calculation = λ k d s is. none_broken (visits d k s) (in_calculation (List ℕ) broken_at refers_nowhere d k s calculation.0 (is ∙ calculation.1))
+  pub references_pass : (kind : Kind) → IsCalculation kind → Passes (breaks_references names) kind
+  references_pass kind calculation = passes (breaks_references names) never_refers kind calculation
 
-  finds : (k : Kind) (d : Data) (around : List Level) → refers_to_nothing k ≡ true → is_found ds k d around ≡ true
+  finds : (k : Kind) (d : Data) (around : List Level) → refers_to_nothing k ≡ true → is_found names k d around ≡ true
   finds kind.TypeName d around h = absurd (false≢true h)
   finds kind.GroupName d around h = absurd (false≢true h)
   finds kind.InterfaceName d around h = absurd (false≢true h)
@@ -285,6 +283,5 @@ module _ (ds : List Declared) where
   finds kind.CoreNumber d around h = absurd (false≢true h)
   finds _ d around h = refl
 
-  pub references_skip : (kind : Kind) → refers_to_nothing kind ≡ true → Skips (breaks_references ds) kind
-  references_skip kind h = λ d s. none_broken (visits d kind s)
-      (in_plain (List ℕ) broken_at refers_nowhere d kind s (refers_plain kind h) (ap (λ b. cond (not b) (s.place ∷ []) []) (finds kind d s.around h)))
+  pub references_skip : (kind : Kind) → refers_to_nothing kind ≡ true → Skips (breaks_references names) kind
+  references_skip kind h = skips (breaks_references names) never_refers kind (and_parts (is_plain (form_of kind)) (not (is_referring_kind kind)) h).0 (λ d s. ap not (finds kind d s.around h))

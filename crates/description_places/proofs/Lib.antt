@@ -1,12 +1,7 @@
-pub mod Found
-pub mod Gathers
-pub mod KeyLaws
-pub mod Lookups
 pub mod Members
-pub mod Placeless
-pub mod Repeated
 pub mod Tables
 pub mod Unbroken
 pub mod Walks
 pub mod Judged
 pub mod Calculating
+pub mod Texts

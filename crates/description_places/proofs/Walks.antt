@@ -17,7 +17,7 @@ use Rattle.description_places.specs.declared.kind.Kind.{Kind}
 use Rattle.description_places.specs.Keys.{Key, key_of}
 use Rattle.description_places.specs.declared.trail.Trail as trail
 use Rattle.description_places.specs.declared.trail.Trail.{Trail, Part, the_lemmas}
-use Rattle.description_places.specs.Spots.{Spot, inside, inside_part, top}
+use Rattle.description_places.specs.Spots.{Spot, inside, inside_part}
 use Rattle.description_places.specs.Trails.{spot_of}
 use Rattle.description_places.specs.Visits.{Visit, Member, visits, items_visits, members_visits, in_parts, at_key, under_keys, first_broken}
 
@@ -107,10 +107,7 @@ pub part_unbroken : (fails : Visit → Bool) (parts : List Value) (kinds : ℕ �
 part_unbroken fails parts kinds spots i part kind spot whole found h part_is kind_is spot_is inv is none =
     first_later whole _ _ found (part_turn fails parts kinds spots i part kind spot whole h part_is kind_is spot_is inv) is none
 
--- the spot of the whole, and of a trail that goes one level deeper
-pub spot_of_whole : spot_of trail.Whole ≡ top
-spot_of_whole = search (rules, the_lemmas)
-
+-- the spot of a trail that goes one level deeper
 pub spot_of_part : (outer : Bor Trail) (owner : Bor Value) (kind : Kind) (i : ℕ) → spot_of (Part outer owner kind i) ≡ inside_part (spot_of outer.now) kind (view owner.now) i
 spot_of_part outer owner kind i = search (rules, the_lemmas)
 

@@ -3,11 +3,14 @@ use Rattle.std.specs.Prelude.{◌≡◌, ℕ, List, [], ◌∷◌, Bool, not, �
 use Rattle.serde_json.specs.Data.{Data}
 use Rattle.serde_json.specs.Find.{as_str}
 use Rattle.serde_json.specs.Read.{read}
+use Rattle.rte_text.specs.declared.refusal.Refusal.{Refusal}
 use Rattle.rte_text.specs.declared.refusal.Refused.{Refused}
 use Rattle.rte_text.specs.declared.refusal.Refused.TheVariants.{Rule, Memory}
+use Rattle.declared_names.specs.Catalogs.{catalog_of}
+use Rattle.declared_names.specs.declared.catalogs.Catalog.{Catalog}
 use Rattle.description_places.specs.declared.kind.Kind.{Kind}
 use Rattle.description_places.specs.declared.kind.Kind.TheVariants.{Description}
-use Rattle.description_places.specs.Declarations.{Declared, declarations, first_repeated}
+use Rattle.description_places.specs.Distinct.{breaks_distinct}
 use Rattle.description_places.specs.Forms.{form_of}
 use Rattle.description_places.specs.Names.{is_name, is_name_form}
 use Rattle.description_places.specs.References.{breaks_references}
@@ -30,12 +33,9 @@ breaks_names v = is_no_name v.kind v.value
 abbrev pub breaks_shape_or_names : Visit → Bool
 breaks_shape_or_names v = breaks_shape v || breaks_names v
 
--- the values of the description d in document order, and what they declare
+-- the values of the description d in document order
 abbrev pub visits_of : Data → List Visit
 visits_of d = visits d Description top
-
-abbrev pub declarations_of : Data → List Declared
-declarations_of d = declarations (visits_of d)
 
 -- Rule 4: what a list declares has distinct names; the place is the second one. Lists of names that refer declare none.
 -- Rule 5: what the names refer to is declared.
@@ -45,17 +45,23 @@ abbrev pub written : List ℕ → List ℕ
 written [] = codes "/"
 written (b ∷ bs) = b ∷ bs
 
+abbrev pub rule_and_place : Refusal → ℕ × List ℕ
+rule_and_place r = (r.rule, r.place)
+
 -- this rule with its first place, if it is broken, else what comes of the later rules
 abbrev pub least_of : ℕ → Option (List ℕ) → Option (ℕ × List ℕ) → Option (ℕ × List ℕ)
 least_of rule (Some place) later = Some (rule, written place)
 least_of rule None later = later
 
--- the refusal of what the description d declares and refers to
-abbrev pub refusal_of_names : Data → Option (ℕ × List ℕ)
-refusal_of_names d =
-    least_of 4 (first_repeated (declarations_of d))
-    (least_of 5 (first_broken (breaks_references (declarations_of d)) (visits_of d))
+-- the refusal of what the description d declares and refers to, by its lists
+abbrev pub refusal_by : Catalog → Data → Option (ℕ × List ℕ)
+refusal_by lists d =
+    least_of 4 (first_broken (breaks_distinct lists) (visits_of d))
+    (least_of 5 (first_broken (breaks_references lists) (visits_of d))
     None)
+
+abbrev pub refusal_of_names : Data → Option (ℕ × List ℕ)
+refusal_of_names d = refusal_by (catalog_of d) d
 
 -- the refusal of the description d: the least rule that is broken, with its first place
 abbrev pub refusal : Data → Option (ℕ × List ℕ)

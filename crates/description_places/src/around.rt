@@ -1,73 +1,24 @@
-//! Texts of a value, and what stands round it.
+//! What stands round a value.
 
-ghost use Rattle.std.specs.Prelude.{◌≡◌, IfOk, option_map, unwrap_or, string_bytes};
+ghost use Rattle.std.specs.Prelude.{◌≡◌, option_map, unwrap_or};
 ghost use Rattle.serde_json.specs.Data.{null};
 ghost use Rattle.serde_json.specs.View.{view};
-ghost use Rattle.description_places.specs.Around.{text_in, text_at, text_part, number_at, named, place_at, value_at, owner_of, component_around};
+ghost use Rattle.declared_names.specs.Values.{text_at, text_of_part};
+ghost use Rattle.description_places.specs.Around.{number_at, number_of, value_at, owner_of, type_of, type_around};
 ghost use Rattle.description_places.specs.Trails.{spot_of};
 
 use crate::kind::Kind;
 use crate::trail::Trail;
-use rte_text::Memory;
+use declared_names::{TypeNumber, text_at, text_of_part};
 use serde_json::Value;
-use std::alloc::Global;
 
-pub(crate) fn text_in(value: &Value) -> &str
-    ensures { result.now ≡ text_in (view value.now) }
-{
-    match value.as_str() {
-        Some(text) => text,
-        None => "",
-    }
-}
-
-pub(crate) fn text_at<'a>(value: &'a Value, key: &str) -> &'a str
-    ensures { result.now ≡ text_at key.now (view value.now) }
-{
-    match value.get(key).and_then(Value::as_str) {
-        Some(text) => text,
-        None => "",
-    }
-}
-
-fn text_part(value: &Value, number: usize) -> &str
-    ensures { result.now ≡ text_part number (view value.now) }
-{
-    match value.get(number).and_then(Value::as_str) {
-        Some(text) => text,
-        None => "",
-    }
-}
-
-pub(crate) fn number_at(value: &Value, key: &str) -> u64
+fn number_at(value: &Value, key: &str) -> u64
     ensures { result ≡ number_at key.now (view value.now) }
 {
     value.get(key).and_then(Value::as_u64).unwrap_or(0)
 }
 
-pub(crate) fn named(list: String, name: &str) -> Result<String, Memory>
-    ensures { IfOk result (λ text. string_bytes text ≡ named (string_bytes list) name.now) }
-{
-    let mut text = list;
-    text.push_str("/")?;
-    text.push_str(name)?;
-    Ok(text)
-}
-
-pub(crate) fn place_at(alloc: Global, trail: &Trail, steps: u8) -> Result<String, Memory>
-    ensures { IfOk result (λ text. string_bytes text ≡ place_at steps ((spot_of trail.now).around)) }
-{
-    match trail {
-        Trail::Whole => Ok(String::new(alloc)),
-        Trail::Member(outer, _, _, _) | Trail::Part(outer, _, _, _) => if steps == 0 {
-            outer.place(alloc)
-        } else {
-            place_at(alloc, *outer, steps - 1)
-        },
-    }
-}
-
-fn value_at<'a>(trail: &Trail<'a>, steps: u8) -> Option<&'a Value>
+pub(crate) fn value_at<'a>(trail: &Trail<'a>, steps: u8) -> Option<&'a Value>
     ensures { unwrap_or (option_map (λ v. view v.now) result) null ≡ value_at steps ((spot_of trail.now).around) }
 {
     match trail {
@@ -76,6 +27,25 @@ fn value_at<'a>(trail: &Trail<'a>, steps: u8) -> Option<&'a Value>
             Some(*owner)
         } else {
             value_at(*outer, steps - 1)
+        },
+    }
+}
+
+/// Which part of a value round it the trail stands in.
+pub(crate) fn number_of(trail: &Trail, steps: u8) -> usize
+    ensures { result ≡ number_of steps ((spot_of trail.now).around) }
+{
+    match trail {
+        Trail::Whole => 0,
+        Trail::Member(outer, _, _, _) => if steps == 0 {
+            0
+        } else {
+            number_of(*outer, steps - 1)
+        },
+        Trail::Part(outer, _, _, number) => if steps == 0 {
+            *number
+        } else {
+            number_of(*outer, steps - 1)
         },
     }
 }
@@ -90,10 +60,10 @@ pub(crate) fn text_around<'a>(trail: &Trail<'a>, steps: u8, key: &str) -> &'a st
 }
 
 pub(crate) fn part_around<'a>(trail: &Trail<'a>, number: usize) -> &'a str
-    ensures { result.now ≡ text_part number (value_at 0 ((spot_of trail.now).around)) }
+    ensures { result.now ≡ text_of_part number (value_at 0 ((spot_of trail.now).around)) }
 {
     match value_at(trail, 0) {
-        Some(value) => text_part(value, number),
+        Some(value) => text_of_part(value, number),
         None => "",
     }
 }
@@ -116,15 +86,28 @@ pub(crate) fn owner_of(trail: &Trail) -> Kind
     }
 }
 
-// The place of the component or composition that the value stands in.
-pub(crate) fn component_around(alloc: Global, trail: &Trail) -> Result<String, Memory>
-    ensures { IfOk result (λ text. string_bytes text ≡ component_around ((spot_of trail.now).around)) }
+fn type_of(kind: Kind, number: usize) -> Option<TypeNumber>
+    ensures { result ≡ type_of kind number }
+{
+    match kind {
+        Kind::Component => Some(TypeNumber::Component(number)),
+        Kind::Composition => Some(TypeNumber::Composition(number)),
+        _ => None,
+    }
+}
+
+/// The component or composition that the value stands in.
+pub(crate) fn type_around(trail: &Trail) -> Option<TypeNumber>
+    ensures { result ≡ type_around ((spot_of trail.now).around) }
 {
     match trail {
-        Trail::Whole => Ok(String::new(alloc)),
-        Trail::Member(outer, _, kind, _) | Trail::Part(outer, _, kind, _) => match kind {
-            Kind::Component | Kind::Composition => Ok(outer.place(alloc)?),
-            _ => component_around(alloc, *outer),
+        Trail::Whole => None,
+        Trail::Member(outer, _, kind, _) | Trail::Part(outer, _, kind, _) => match type_of(
+            *kind,
+            number_of(*outer, 0),
+        ) {
+            Some(found) => Some(found),
+            None => type_around(*outer),
         },
     }
 }

@@ -1,20 +1,18 @@
 //! Judging a description.
 
-ghost use Rattle.std.specs.Prelude.{◌≡◌, ℕ, List, None, IfOk, IfErr, option_map, string_bytes};
+ghost use Rattle.std.specs.Prelude.{◌≡◌, IfOk, IfErr, option_map, string_bytes};
 ghost use Rattle.serde_json.specs.View.{view};
-ghost use Rattle.description_places.specs.References.{breaks_references};
-ghost use Rattle.description_places.specs.Rules.{least_of, refusal, refusal_of_names, written, visits_of, IsRefusalOf, IsUnbroken};
-ghost use Rattle.description_places.specs.Tables.{declared_in};
+ghost use Rattle.description_places.specs.Rules.{refusal, refusal_by, refusal_of_names, rule_and_place, written, visits_of, IsRefusalOf, IsUnbroken};
 ghost use Rattle.description_places.specs.Visits.{first_broken};
 
-use crate::distinct::{Declarations, Gathering};
-use crate::gathering::gather;
+use crate::distinct::DistinctRule;
 use crate::kind::Kind;
 use crate::references::ReferenceRule;
 use crate::rule::Rule;
 use crate::rules::{NameRule, ShapeOrNameRule, ShapeRule};
 use crate::trail::Trail;
 use crate::walk::first_fault;
+use declared_names::{Catalog, catalog_of};
 use rte_text::{Memory, Refusal, Refused, Text};
 use serde_json::{Category, Value};
 use std::alloc::Global;
@@ -44,7 +42,7 @@ pub fn judge(alloc: Global, bytes: &[u8]) -> Result<Value, Refused>
 /// Rules 2 and 3 are looked at together, and one after the other only if one of them is broken.
 #[tactic(auto, using(crate::proofs::Judged::refusal_is_of_names))]
 fn refusal_of(alloc: Global, value: &Value) -> Result<Option<Refusal>, Memory>
-    ensures { IfOk result (λ found. option_map {U = ℕ × List ℕ} (λ r. (r.rule, r.place)) found ≡ refusal (view value.now)) }
+    ensures { IfOk result (λ found. option_map rule_and_place found ≡ refusal (view value.now)) }
 {
     match first_place(alloc, &ShapeOrNameRule, value)? {
         Some(_) => refusal_in_turn(alloc, value),
@@ -53,7 +51,7 @@ fn refusal_of(alloc: Global, value: &Value) -> Result<Option<Refusal>, Memory>
 }
 
 fn refusal_in_turn(alloc: Global, value: &Value) -> Result<Option<Refusal>, Memory>
-    ensures { IfOk result (λ found. option_map {U = ℕ × List ℕ} (λ r. (r.rule, r.place)) found ≡ refusal (view value.now)) }
+    ensures { IfOk result (λ found. option_map rule_and_place found ≡ refusal (view value.now)) }
 {
     if let Some(place) = first_place(alloc, &ShapeRule, value)? {
         return Ok(Some(refusal_at(alloc, 2, place)?));
@@ -65,28 +63,24 @@ fn refusal_in_turn(alloc: Global, value: &Value) -> Result<Option<Refusal>, Memo
 }
 
 fn refusal_of_names(alloc: Global, value: &Value) -> Result<Option<Refusal>, Memory>
-    ensures { IfOk result (λ found. option_map {U = ℕ × List ℕ} (λ r. (r.rule, r.place)) found ≡ refusal_of_names (view value.now)) }
+    ensures { IfOk result (λ found. option_map rule_and_place found ≡ refusal_of_names (view value.now)) }
 {
-    let mut found = Gathering::new(alloc);
-    gather(alloc, value, Kind::Description, &Trail::Whole, &mut found)?;
-    match found.finish() {
-        Err(place) => Ok(Some(refusal_at(alloc, 4, place)?)),
-        Ok(declared) => refusal_of_references(alloc, value, &declared),
-    }
+    let declared = catalog_of(alloc, value)?;
+    let refusal = refusal_by(alloc, value, &declared);
+    drop(declared);
+    refusal
 }
 
-fn refusal_of_references(
-    alloc: Global,
-    value: &Value,
-    declared: &Declarations,
-) -> Result<Option<Refusal>, Memory>
-    ensures { IfOk result (λ found. option_map {U = ℕ × List ℕ} (λ r. (r.rule, r.place)) found
-        ≡ least_of 5 (first_broken (breaks_references (declared_in declared.now)) (visits_of (view value.now))) None) }
+fn refusal_by(alloc: Global, value: &Value, declared: &Catalog) -> Result<Option<Refusal>, Memory>
+    ensures { IfOk result (λ found. option_map rule_and_place found ≡ refusal_by declared.now (view value.now)) }
 {
-    match first_place(alloc, &ReferenceRule { declared }, value)? {
-        Some(place) => Ok(Some(refusal_at(alloc, 5, place)?)),
-        None => Ok(None),
+    if let Some(place) = first_place(alloc, &DistinctRule { declared }, value)? {
+        return Ok(Some(refusal_at(alloc, 4, place)?));
     }
+    if let Some(place) = first_place(alloc, &ReferenceRule { declared }, value)? {
+        return Ok(Some(refusal_at(alloc, 5, place)?));
+    }
+    Ok(None)
 }
 
 fn first_place<R: Rule>(alloc: Global, rule: &R, value: &Value) -> Result<Option<String>, Memory>

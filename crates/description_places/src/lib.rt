@@ -16,14 +16,15 @@
 //! - Rule 3: each name has 1 to 32 bytes, a letter, then letters, digits and `_`.
 //! - Rule 4: the names that one list declares are distinct; components and compositions count as one list, com specs of
 //!   one port name distinct elements, the accesses of one runnable are distinct, and so are the positions in one task,
-//!   which are compared by the task's text. The place is the second one: the name, the access or the position. What is
-//!   declared is gathered by a second walk, `gather`, under a key: the place of its list with its name there.
-//! - Rule 5: each name refers to something declared. A type, a mode group, an interface, a component or composition and a
-//!   task are looked up in the whole; a runnable, an area, a variable, a port and a prototype in the component or
-//!   composition around; an initial mode in its group. An item (a data element, operation or mode element) is looked up
-//!   in the interface of its port, and the port of a prototype in the prototype's type. The root is a composition, and a
-//!   core at least 0 and below the number of cores. The place is the name or number. Modes in events and statements, and
-//!   the instances and events of the mapping, are for later rules.
+//!   which are compared by the task's text. The place is the second one: the name, the access or the position. A name is
+//!   repeated if it stands at an earlier place of its list; `catalog_of` of `declared_names` has the lists.
+//! - Rule 5: each name refers to something declared: the list that it is looked up in has it. A type, a mode group,
+//!   an interface, a component or composition and a task are looked up in the whole; a runnable, an area, a variable,
+//!   a port and a prototype in the component or composition around; an initial mode in its group. An item (a data
+//!   element, operation or mode element) is looked up in the interface of its port, and the port of a prototype in
+//!   the prototype's type. The root is a composition, and a core at least 0 and below the number of cores. The place
+//!   is the name or number. Modes in events and statements, and the instances and events of the mapping, are for
+//!   later rules.
 //!
 //! Places are JSON pointers (RFC 6901), and the whole is `/`. A number that is written as `-0`, with a fraction or with an
 //! exponent is no whole number; of doubled keys the last one stands.
@@ -56,10 +57,12 @@
 //! the `element`, for accesses the access, for positions the number. Positions of one task are compared by the task's text, before
 //! it is looked at whether the task is declared.
 //!
-//! **When are two names of one list the same?** When they have one key, which is the place of their list with the name. For an
-//! access its parts stand as the name, for a position the task and the number, each part apart by a space. Laws say that no two
-//! lists and no two names share a key (`keys_tell_lists_and_names` of `description_places`). The items of an interface count as
-//! one list, that of their interface; by its kind it has only one list of them.
+//! **When are two names of one list the same?** When their texts are. For an access the text has its parts, for a position the task
+//! and the number, each part apart by a space: laws say that such a text tells them (`texts_tell_accesses_and_positions`). The items
+//! of an interface count as one list, and so do components and compositions.
+//!
+//! **How is it known that a name is repeated?** Its list has where each of its names first stands (`catalog_of` of `declared_names`),
+//! and a value knows which item of its list it is. It is repeated if its name first stands at an earlier place.
 //!
 //! **Which item may an access, a statement or an event name?** Any item of its port's interface: a data element, an operation or a
 //! mode element. Whether the item's kind fits is for later rules. So are the modes in events and statements, and the instances and
@@ -68,12 +71,9 @@
 //! **Which rule refuses a core that there is not?** The one on references, a negative core too. Both are whole numbers, so their
 //! shape is right.
 //!
-//! **How is a reference followed?** By keys. A declared name leads somewhere: a port to the key of its interface, a prototype to
-//! the key of its type, all others to their own place. So an item is found in two steps from its port, and no list is walked for a
-//! name.
-//!
-//! **Why do the laws ask for fewer than 2^64 bytes?** A place is written with the decimals of positions, and a decimal has 64
-//! digits at most. In a list of more than 10^64 items two items would have one place. Each slice is shorter than 2^64 bytes.
+//! **How is a reference followed?** By positions: a component or composition is known by its number, a port leads to where its
+//! interface stands, a prototype to where its type does. So an item is found in two steps from its port, and no list is walked for
+//! a name but the modes of a group, which are 32 at most.
 #![tactic(auto)]
 
 mod alternatives;
@@ -81,12 +81,12 @@ mod around;
 mod calculations;
 mod distinct;
 mod form;
-mod gathering;
 mod judging;
 mod keys;
 mod kind;
 mod laws;
 mod names;
+mod owners;
 mod references;
 mod rows;
 mod rule;
@@ -97,13 +97,12 @@ mod trail;
 mod walk;
 
 pub use alternatives::{Alternative, choices_of, resolved};
-pub use distinct::{Declaration, Declarations, Gathering};
+pub use distinct::DistinctRule;
 pub use form::{Form, form_of};
-pub use gathering::gather;
 pub use judging::judge;
 pub use keys::{Field, keys_of};
 pub use kind::Kind;
-pub use laws::{keys_tell_lists_and_names, unbroken_descriptions};
+pub use laws::{texts_tell_accesses_and_positions, unbroken_descriptions};
 pub use names::is_name;
 pub use references::ReferenceRule;
 pub use rows::{row_of, words_of};

@@ -1,44 +1,40 @@
 //! The rule of references.
 
-ghost use Rattle.std.specs.Prelude.{◌≡◌, ◌++◌, IfOk, codes, string_bytes};
+ghost use Rattle.std.specs.Prelude.{◌≡◌, Some, bytes_eq, codes, map, option_copied};
+ghost use Rattle.std.specs.List.{list_any};
 ghost use Rattle.serde_json.specs.View.{view};
-ghost use Rattle.description_places.specs.Around.{named, text_part, place_at, value_at};
-ghost use Rattle.description_places.specs.References.{is_declared, is_declared_composition, interface_has, port_has, component_has, prototype_has, key_around, is_core, is_found, breaks_references};
-ghost use Rattle.description_places.specs.Tables.{declared_in};
+ghost use Rattle.declared_names.specs.declared.catalogs.TypeNumber.TheVariants as of;
+ghost use Rattle.declared_names.specs.Names.{has_name, texts};
+ghost use Rattle.declared_names.specs.Values.{items_at, text_in};
+ghost use Rattle.description_places.specs.Around.{value_at};
+ghost use Rattle.description_places.specs.References.{breaks_references, interface_has, is_core, is_found, item_found, port_found, port_has, prototype_has, type_has};
+ghost use Rattle.description_places.specs.Shape.{holds};
 ghost use Rattle.description_places.specs.Trails.{spot_of};
 
-use crate::around::{
-    component_around, named, number_around, part_around, place_at, text_around, text_in,
-};
+use crate::around::{number_around, part_around, text_around, type_around, value_at};
 use crate::calculations::is_calculation;
-use crate::distinct::Declarations;
 use crate::kind::Kind;
+use crate::owners::{component_around, composition_around};
 use crate::rule::Rule;
 use crate::skipping::refers_to_nothing;
-use crate::trail::{Trail, begun};
-use rte_text::Memory;
+use crate::trail::Trail;
+use declared_names::{
+    Catalog, ComponentLists, CompositionLists, TypeNumber, has_at, items_at, text_in,
+};
 use serde_json::Value;
-use std::alloc::Global;
 
 /// Rule 5: each name refers to something declared, the root is a composition, and each core is one of the mapping's.
 #[derive(Clone, Copy)]
-pub struct ReferenceRule<'a> {
+pub struct ReferenceRule<'s, 'v> {
     /// What the description declares.
-    pub declared: &'a Declarations,
+    pub declared: &'s Catalog<'v>,
 }
 
-impl Rule for ReferenceRule<'_> {
-    ghost breaks = { λ rule. breaks_references (declared_in rule.declared.now) };
+impl Rule for ReferenceRule<'_, '_> {
+    ghost breaks = { λ rule. breaks_references rule.declared.now };
 
-    fn is_broken(
-        &self,
-        alloc: Global,
-        value: &Value,
-        kind: Kind,
-        trail: &Trail,
-    ) -> Result<bool, Memory> {
-        let is_found = is_found(alloc, self.declared, value, kind, trail)?;
-        Ok(!is_found)
+    fn is_broken(&self, value: &Value, kind: Kind, trail: &Trail) -> bool {
+        !is_found(self.declared, value, kind, trail)
     }
 
     #[tactic(auto, using(crate::proofs::Calculating::references_pass))]
@@ -52,129 +48,140 @@ impl Rule for ReferenceRule<'_> {
     }
 }
 
-// The lists of the whole and of the component or composition around, and the modes of the group around.
+// ---- what the component or composition around declares
 
-fn is_in_whole(
-    alloc: Global,
-    declared: &Declarations,
-    list: &str,
-    name: &str,
-) -> Result<bool, Memory>
-    ensures { IfOk result (λ found. found ≡ is_declared (declared_in declared.now) (named list.now name.now)) }
+fn has_runnable(lists: Option<&ComponentLists>, name: &str) -> bool
+    ensures { result ≡ holds (λ l. has_name l.behavior.runnables name.now) (option_copied lists.entry) }
 {
-    let text = begun(alloc, list)?;
-    let key = named(text, name)?;
-    Ok(declared.contains(key.as_str()))
-}
-
-fn is_composition_in_whole(
-    alloc: Global,
-    declared: &Declarations,
-    list: &str,
-    name: &str,
-) -> Result<bool, Memory>
-    ensures { IfOk result (λ found. found ≡ is_declared_composition (declared_in declared.now) (named list.now name.now)) }
-{
-    let text = begun(alloc, list)?;
-    let key = named(text, name)?;
-    Ok(declared.contains_composition(key.as_str()))
-}
-
-fn is_in_group(
-    alloc: Global,
-    declared: &Declarations,
-    name: &str,
-    trail: &Trail,
-) -> Result<bool, Memory>
-    ensures { IfOk result (λ found. found
-        ≡ is_declared (declared_in declared.now) (named (place_at 0 ((spot_of trail.now).around) ++ codes "/modes") name.now)) }
-{
-    let mut text = place_at(alloc, trail, 0)?;
-    text.push_str("/modes")?;
-    let key = named(text, name)?;
-    Ok(declared.contains(key.as_str()))
-}
-
-fn key_around(alloc: Global, list: &str, name: &str, trail: &Trail) -> Result<String, Memory>
-    ensures { IfOk result (λ key. string_bytes key ≡ key_around list.now name.now ((spot_of trail.now).around)) }
-{
-    let mut text = component_around(alloc, trail)?;
-    text.push_str(list)?;
-    named(text, name)
-}
-
-fn is_around(
-    alloc: Global,
-    declared: &Declarations,
-    list: &str,
-    name: &str,
-    trail: &Trail,
-) -> Result<bool, Memory>
-    ensures { IfOk result (λ found. found ≡ is_declared (declared_in declared.now) (key_around list.now name.now ((spot_of trail.now).around))) }
-{
-    let key = key_around(alloc, list, name, trail)?;
-    Ok(declared.contains(key.as_str()))
-}
-
-// What is found through a port or a prototype.
-
-fn interface_has(
-    alloc: Global,
-    declared: &Declarations,
-    item: &str,
-    interface: &str,
-) -> Result<bool, Memory>
-    ensures { IfOk result (λ found. found ≡ interface_has (declared_in declared.now) item.now interface.now) }
-{
-    match declared.led_to(interface) {
-        Some(place) => {
-            let text = begun(alloc, place)?;
-            let key = named(text, item)?;
-            Ok(declared.contains(key.as_str()))
-        }
-        None => Ok(false),
+    match lists {
+        Some(lists) => lists.behavior.runnables.has(name),
+        None => false,
     }
 }
 
-fn port_has(alloc: Global, declared: &Declarations, item: &str, port: &str) -> Result<bool, Memory>
-    ensures { IfOk result (λ found. found ≡ port_has (declared_in declared.now) item.now port.now) }
+fn has_area(lists: Option<&ComponentLists>, name: &str) -> bool
+    ensures { result ≡ holds (λ l. has_name l.behavior.areas name.now) (option_copied lists.entry) }
 {
-    match declared.led_to(port) {
-        Some(interface) => interface_has(alloc, declared, item, interface),
-        None => Ok(false),
+    match lists {
+        Some(lists) => lists.behavior.areas.has(name),
+        None => false,
     }
 }
 
-fn component_has(
-    alloc: Global,
-    declared: &Declarations,
-    port: &str,
-    component: &str,
-) -> Result<bool, Memory>
-    ensures { IfOk result (λ found. found ≡ component_has (declared_in declared.now) port.now component.now) }
+fn has_variable(lists: Option<&ComponentLists>, name: &str) -> bool
+    ensures { result ≡ holds (λ l. has_name l.behavior.variables name.now) (option_copied lists.entry) }
 {
-    match declared.led_to(component) {
-        Some(place) => {
-            let mut text = begun(alloc, place)?;
-            text.push_str("/ports")?;
-            let key = named(text, port)?;
-            Ok(declared.contains(key.as_str()))
-        }
-        None => Ok(false),
+    match lists {
+        Some(lists) => lists.behavior.variables.has(name),
+        None => false,
     }
 }
 
-fn prototype_has(
-    alloc: Global,
-    declared: &Declarations,
-    port: &str,
-    prototype: &str,
-) -> Result<bool, Memory>
-    ensures { IfOk result (λ found. found ≡ prototype_has (declared_in declared.now) port.now prototype.now) }
+fn has_prototype(lists: Option<&CompositionLists>, name: &str) -> bool
+    ensures { result ≡ holds (λ l. has_name l.prototypes name.now) (option_copied lists.entry) }
 {
-    match declared.led_to(prototype) {
-        Some(component) => component_has(alloc, declared, port, component),
-        None => Ok(false),
+    match lists {
+        Some(lists) => lists.prototypes.has(name),
+        None => false,
+    }
+}
+
+fn component_has(declared: &Catalog, port: &str, number: usize) -> bool
+    ensures { result ≡ type_has declared.now port.now (Some (of.Component number)) }
+{
+    match declared.prototypes.in_components.items().get(number) {
+        Some(lists) => lists.ports.names.has(port),
+        None => false,
+    }
+}
+
+fn composition_has(declared: &Catalog, port: &str, number: usize) -> bool
+    ensures { result ≡ type_has declared.now port.now (Some (of.Composition number)) }
+{
+    match declared.prototypes.in_compositions.items().get(number) {
+        Some(lists) => lists.ports.names.has(port),
+        None => false,
+    }
+}
+
+fn type_has(declared: &Catalog, port: &str, found: Option<TypeNumber>) -> bool
+    ensures { result ≡ type_has declared.now port.now found }
+{
+    match found {
+        None => false,
+        Some(TypeNumber::Component(number)) => component_has(declared, port, number),
+        Some(TypeNumber::Composition(number)) => composition_has(declared, port, number),
+    }
+}
+
+// ---- what is found through a port or a prototype
+
+fn interface_has(declared: &Catalog, item: &str, interface: &str) -> bool
+    ensures { result ≡ interface_has declared.now item.now interface.now }
+{
+    let position = declared.interfaces.names.find(interface);
+    has_at(declared.interfaces.items.items(), position, item)
+}
+
+fn has_item(declared: &Catalog, item: &str, port: &str, lists: &ComponentLists) -> bool
+    ensures { result ≡ port_has declared.now item.now port.now lists.now }
+{
+    match lists
+        .ports
+        .interfaces
+        .items()
+        .get(lists.ports.names.find(port))
+    {
+        Some(interface) => has_at(declared.interfaces.items.items(), *interface, item),
+        None => false,
+    }
+}
+
+fn item_found(declared: &Catalog, item: &str, port: &str, trail: &Trail) -> bool
+    ensures { result ≡ item_found declared.now item.now port.now ((spot_of trail.now).around) }
+{
+    match component_around(declared, trail) {
+        Some(lists) => has_item(declared, item, port, lists),
+        None => false,
+    }
+}
+
+fn has_port(declared: &Catalog, port: &str, prototype: &str, lists: &CompositionLists) -> bool
+    ensures { result ≡ prototype_has declared.now port.now prototype.now lists.now }
+{
+    let position = lists.prototypes.find(prototype);
+    type_has(declared, port, lists.types.items().get(position).copied())
+}
+
+fn port_found(declared: &Catalog, port: &str, prototype: &str, trail: &Trail) -> bool
+    ensures { result ≡ port_found declared.now port.now prototype.now ((spot_of trail.now).around) }
+{
+    match composition_around(declared, trail) {
+        Some(lists) => has_port(declared, port, prototype, lists),
+        None => false,
+    }
+}
+
+// ---- modes and cores
+
+fn is_one_of(values: &[Value], name: &str) -> bool
+    ensures { result ≡ list_any (λ v. bytes_eq (text_in (view v)) name.now) values.now }
+{
+    values.iter().any(|value| text_in(value) == name)
+}
+
+fn has_text(values: &[Value], name: &str) -> bool
+    ensures { result ≡ has_name (texts (map view values.now)) name.now }
+{
+    is_one_of(values, name)
+}
+
+fn has_mode(trail: &Trail, name: &str) -> bool
+    ensures { result ≡ has_name (texts (items_at (codes "modes") (value_at 0 ((spot_of trail.now).around)))) name.now }
+{
+    match value_at(trail, 0) {
+        Some(group) => has_text(items_at(group, "modes"), name),
+        None => false,
     }
 }
 
@@ -187,87 +194,30 @@ fn is_core(value: &Value, trail: &Trail) -> bool
     }
 }
 
-fn port_around_has(
-    alloc: Global,
-    declared: &Declarations,
-    item: &str,
-    port: &str,
-    trail: &Trail,
-) -> Result<bool, Memory>
-    ensures { IfOk result (λ found. found
-        ≡ port_has (declared_in declared.now) item.now (key_around (codes "/ports") port.now ((spot_of trail.now).around))) }
-{
-    let key = key_around(alloc, "/ports", port, trail)?;
-    port_has(alloc, declared, item, key.as_str())
-}
-
-fn prototype_around_has(
-    alloc: Global,
-    declared: &Declarations,
-    port: &str,
-    trail: &Trail,
-) -> Result<bool, Memory>
-    ensures { IfOk result (λ found. found
-        ≡ prototype_has (declared_in declared.now) port.now
-        (key_around (codes "/prototypes") (text_part 0 (value_at 0 ((spot_of trail.now).around))) ((spot_of trail.now).around))) }
-{
-    let key = key_around(alloc, "/prototypes", part_around(trail, 0), trail)?;
-    prototype_has(alloc, declared, port, key.as_str())
-}
-
-fn interface_in_whole_has(
-    alloc: Global,
-    declared: &Declarations,
-    item: &str,
-    list: &str,
-    interface: &str,
-) -> Result<bool, Memory>
-    ensures { IfOk result (λ found. found ≡ interface_has (declared_in declared.now) item.now (named list.now interface.now)) }
-{
-    let text = begun(alloc, list)?;
-    let key = named(text, interface)?;
-    interface_has(alloc, declared, item, key.as_str())
-}
-
-fn is_found(
-    alloc: Global,
-    declared: &Declarations,
-    value: &Value,
-    kind: Kind,
-    trail: &Trail,
-) -> Result<bool, Memory>
-    ensures { IfOk result (λ found. found
-        ≡ is_found (declared_in declared.now) kind (view value.now) ((spot_of trail.now).around)) }
+fn is_found(declared: &Catalog, value: &Value, kind: Kind, trail: &Trail) -> bool
+    ensures { result ≡ is_found declared.now kind (view value.now) ((spot_of trail.now).around) }
 {
     let name = text_in(value);
     match kind {
-        Kind::TypeName => is_in_whole(alloc, declared, "/dataTypes", name),
-        Kind::GroupName => is_in_whole(alloc, declared, "/modeGroups", name),
-        Kind::InterfaceName => is_in_whole(alloc, declared, "/interfaces", name),
-        Kind::PrototypeTypeName => is_in_whole(alloc, declared, "/components", name),
-        Kind::TaskName => is_in_whole(alloc, declared, "/mapping/tasks", name),
-        Kind::RootName => is_composition_in_whole(alloc, declared, "/components", name),
-        Kind::InitialMode => is_in_group(alloc, declared, name, trail),
-        Kind::RunnableName => is_around(alloc, declared, "/behavior/runnables", name, trail),
-        Kind::AreaName => is_around(alloc, declared, "/behavior/exclusiveAreas", name, trail),
-        Kind::VariableName => is_around(alloc, declared, "/behavior/variables", name, trail),
-        Kind::ComponentPort | Kind::OuterPort => is_around(alloc, declared, "/ports", name, trail),
-        Kind::JoinedPrototype => is_around(alloc, declared, "/prototypes", name, trail),
-        Kind::ComSpecItem => {
-            let interface = text_around(trail, 2, "interface");
-            interface_in_whole_has(alloc, declared, name, "/interfaces", interface)
-        }
-        Kind::EventItem => port_around_has(
-            alloc,
-            declared,
-            name,
-            text_around(trail, 0, "port"),
-            trail,
-        ),
-        Kind::AccessItem => port_around_has(alloc, declared, name, part_around(trail, 1), trail),
-        Kind::PairItem => port_around_has(alloc, declared, name, part_around(trail, 0), trail),
-        Kind::JoinedPort => prototype_around_has(alloc, declared, name, trail),
-        Kind::CoreNumber => Ok(is_core(value, trail)),
-        _ => Ok(true),
+        Kind::TypeName => declared.types.data_types.has(name),
+        Kind::GroupName => declared.types.mode_groups.has(name),
+        Kind::InterfaceName => declared.interfaces.names.has(name),
+        Kind::PrototypeTypeName => declared.prototypes.components.has(name)
+            || declared.prototypes.compositions.has(name),
+        Kind::RootName => declared.prototypes.compositions.has(name),
+        Kind::TaskName => declared.mapping.tasks.has(name),
+        Kind::InitialMode => has_mode(trail, name),
+        Kind::RunnableName => has_runnable(component_around(declared, trail), name),
+        Kind::AreaName => has_area(component_around(declared, trail), name),
+        Kind::VariableName => has_variable(component_around(declared, trail), name),
+        Kind::ComponentPort | Kind::OuterPort => type_has(declared, name, type_around(trail)),
+        Kind::JoinedPrototype => has_prototype(composition_around(declared, trail), name),
+        Kind::ComSpecItem => interface_has(declared, name, text_around(trail, 2, "interface")),
+        Kind::EventItem => item_found(declared, name, text_around(trail, 0, "port"), trail),
+        Kind::AccessItem => item_found(declared, name, part_around(trail, 1), trail),
+        Kind::PairItem => item_found(declared, name, part_around(trail, 0), trail),
+        Kind::JoinedPort => port_found(declared, name, part_around(trail, 0), trail),
+        Kind::CoreNumber => is_core(value, trail),
+        _ => true,
     }
 }

@@ -1,6 +1,6 @@
 //! What a rule over the values of a description is.
 
-ghost use Rattle.std.specs.Prelude.{◌≡◌, Bool, true, IfOk};
+ghost use Rattle.std.specs.Prelude.{◌≡◌, Bool, true};
 ghost use Rattle.serde_json.specs.View.{view};
 ghost use Rattle.description_places.specs.Calculations.{Passes};
 ghost use Rattle.description_places.specs.Skips.{Skips};
@@ -9,24 +9,16 @@ ghost use Rattle.description_places.specs.Visits.{Visit, visit_at};
 
 use crate::kind::Kind;
 use crate::trail::Trail;
-use rte_text::Memory;
 use serde_json::Value;
-use std::alloc::Global;
 
 /// A rule that looks at each value of a description, with its kind and what stands round it.
 pub trait Rule {
     // the test that a broken value meets
     ghost breaks: { Self → Visit → Bool };
 
-    /// Whether the value, which stands at this place, breaks the rule. The only error is that there is no memory to tell.
-    fn is_broken(
-        &self,
-        alloc: Global,
-        value: &Value,
-        kind: Kind,
-        trail: &Trail,
-    ) -> Result<bool, Memory>
-        ensures { IfOk result (λ answer. answer ≡ breaks self.now (visit_at (spot_of trail.now) kind (view value.now))) };
+    /// Whether the value, which stands at this place, breaks the rule.
+    fn is_broken(&self, value: &Value, kind: Kind, trail: &Trail) -> bool
+        ensures { result ≡ breaks self.now (visit_at (spot_of trail.now) kind (view value.now)) };
 
     /// Whether the walk may pass a value of this kind, with all that it holds: then none of these breaks the rule. So the rule of
     /// references passes calculations of programs.

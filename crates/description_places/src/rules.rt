@@ -10,9 +10,7 @@ use crate::names::is_name;
 use crate::rule::Rule;
 use crate::shape::has_shape;
 use crate::trail::Trail;
-use rte_text::Memory;
 use serde_json::Value;
-use std::alloc::Global;
 
 /// Rule 2: each value has the shape of its kind, and no key is missing or unknown.
 #[derive(Clone, Copy)]
@@ -21,14 +19,8 @@ pub struct ShapeRule;
 impl Rule for ShapeRule {
     ghost breaks = { λ _. breaks_shape };
 
-    fn is_broken(
-        &self,
-        _alloc: Global,
-        value: &Value,
-        kind: Kind,
-        _trail: &Trail,
-    ) -> Result<bool, Memory> {
-        Ok(!has_shape(kind, value))
+    fn is_broken(&self, value: &Value, kind: Kind, _trail: &Trail) -> bool {
+        !has_shape(kind, value)
     }
 
     fn passes(&self, _kind: Kind) -> bool {
@@ -60,14 +52,8 @@ pub struct NameRule;
 impl Rule for NameRule {
     ghost breaks = { λ _. breaks_names };
 
-    fn is_broken(
-        &self,
-        _alloc: Global,
-        value: &Value,
-        kind: Kind,
-        _trail: &Trail,
-    ) -> Result<bool, Memory> {
-        Ok(is_no_name(kind, value))
+    fn is_broken(&self, value: &Value, kind: Kind, _trail: &Trail) -> bool {
+        is_no_name(kind, value)
     }
 
     fn passes(&self, _kind: Kind) -> bool {
@@ -86,14 +72,8 @@ pub struct ShapeOrNameRule;
 impl Rule for ShapeOrNameRule {
     ghost breaks = { λ _. breaks_shape_or_names };
 
-    fn is_broken(
-        &self,
-        _alloc: Global,
-        value: &Value,
-        kind: Kind,
-        _trail: &Trail,
-    ) -> Result<bool, Memory> {
-        Ok(!has_shape(kind, value) || is_no_name(kind, value))
+    fn is_broken(&self, value: &Value, kind: Kind, _trail: &Trail) -> bool {
+        !has_shape(kind, value) || is_no_name(kind, value)
     }
 
     fn passes(&self, _kind: Kind) -> bool {

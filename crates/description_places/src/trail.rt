@@ -22,15 +22,6 @@ pub enum Trail<'a> {
 /// Room that most places and keys fit in, in bytes, so that few texts of them grow.
 const ROOM: usize = 48;
 
-/// A text that begins so, with room for most places and keys.
-pub(crate) fn begun(alloc: Global, start: &str) -> Result<String, AllocError>
-    ensures { IfOk result (λ text. string_bytes text ≡ start.now) }
-{
-    let mut text = String::with_capacity(alloc, ROOM)?;
-    text.push_str(start)?;
-    Ok(text)
-}
-
 impl Trail<'_> {
     /// The place as a JSON pointer, the whole as the empty text.
     pub fn place(&self, alloc: Global) -> Result<String, AllocError>

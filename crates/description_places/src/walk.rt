@@ -37,7 +37,7 @@ pub fn first_fault<R: Rule>(
     if rule.passes(kind) {
         return Ok(None);
     }
-    if rule.is_broken(alloc, value, kind, trail)? {
+    if rule.is_broken(value, kind, trail) {
         let place = trail.place(alloc)?;
         return Ok(Some(place));
     }

@@ -1,5 +1,5 @@
 -- What the components of a description keep.
-use Rattle.std.proofs.Common.{◌≡◌, ℕ, suc, List, [], ◌∷◌, map, length, Bool, true, false, ◌&&◌, ◌||◌, eqb, ltb, codes, Some, refl, sym, ap, subst, ◌∙◌, inl, Option}
+use Rattle.std.proofs.Common.{◌≡◌, ℕ, suc, List, [], ◌∷◌, map, length, Bool, true, false, ◌&&◌, ◌||◌, eqb, ltb, codes, Some, refl, sym, ap, subst, ◌∙◌, Option}
 use Rattle.std.specs.Arc.{arc_value}
 use Rattle.std.specs.List.{list_all, list_any, slice_get}
 use Rattle.std.specs.Option.{option_map_or, unwrap_or}
@@ -15,12 +15,13 @@ use Rattle.runnable_lang.specs.declared.program.AccessKind.TheVariants as kind
 use Rattle.runnable_lang.specs.Trees.{program_tree}
 use Rattle.description_places.specs.declared.kind.Kind.TheVariants as of_kind
 use Rattle.description_places.specs.declared.kind.Kind.TheVariants.{Description}
-use Rattle.description_places.specs.Around.{place_at, text_at, text_in}
-use Rattle.description_places.specs.Declarations.{Declared, declarations}
+use Rattle.description_places.specs.Distinct.{stands_before}
+use Rattle.declared_names.specs.declared.catalogs.Catalog.{Catalog}
+use Rattle.declared_names.specs.Catalogs.{access_firsts, catalog_of}
+use Rattle.declared_names.specs.declared.catalogs.ComponentLists.{ComponentLists}
 use Rattle.description_places.specs.Keys.{needed, optional}
 use Rattle.description_places.specs.Names.{is_name}
 use Rattle.description_places.specs.Spots.{Spot, top, inside, inside_part}
-use Rattle.description_places.specs.Visits.{visits}
 use Rattle.interface_types.specs.declared.interface.Interface.{Interface}
 use Rattle.interface_types.specs.declared.interface.TypeTable.{TypeTable}
 use Rattle.interface_types.specs.Refusals.{is_sound, operations_in}
@@ -37,7 +38,7 @@ use Rattle.declared_names.specs.declared.scopes.InterfaceNames.{InterfaceNames}
 use Rattle.declared_names.specs.Components.{component_names}
 use Rattle.declared_names.specs.Names.{position_in, texts}
 use Rattle.declared_names.specs.Scopes.{interface_names, scope_of, type_names}
-use Rattle.declared_names.specs.Values.{items_at, listed}
+use Rattle.declared_names.specs.Values.{items_at, listed, text_at, text_in}
 use Rattle.component_model.specs.Components.{access_reading, event_reading, variable_reading}
 use Rattle.interface_types.specs.Initials.{keeps}
 use Rattle.component_model.specs.Ports.{port_reading}
@@ -46,16 +47,17 @@ use Rattle.component_model.specs.Types.{types_reading}
 use Rattle.bus_semantics.specs.SoundPrograms.{is_well_formed}
 use Rattle.plan_definitions.specs.WellFormed.{access_fits, accesses_distinct, arguments_at, component_fits, event_fits, event_kind_fits, names_fit, ports_fit, runnable_fits, serves_fit, variable_fits}
 use Rattle.description_stages.proofs.Accesses.{access_low, accesses_law}
-use Rattle.description_stages.proofs.ComponentLists.{runnables_list, variables_list}
 use Rattle.description_stages.proofs.Events.{event_low, events_law, kind_low, disabled_low}
-use Rattle.description_stages.proofs.Kept.{Kept, kept_part}
+use Rattle.description_stages.proofs.Kept.{Kept, kept_part, repeated_here}
 use Rattle.description_stages.proofs.Lists.{list_all_more}
-use Rattle.description_stages.proofs.Naming.{all_listed, names_owned, on_list, Owns, short_names_fit}
+use Rattle.description_stages.proofs.Naming.{all_listed, names_kept, Objects, on_list, short_names_fit}
+use Rattle.description_stages.proofs.PortItems.{owned_is, ports_by_place}
 use Rattle.description_stages.proofs.Ports.{ports_law}
+use Rattle.description_stages.proofs.Positions.{items_there, made_at}
 use Rattle.description_stages.proofs.Programs.{program_law}
 use Rattle.description_stages.proofs.Servers.{servers_law, serves_in, map_or_map}
 use Rattle.description_stages.proofs.Serving.{all_well, well, with_served}
-use Rattle.description_stages.proofs.Shorts.{Name, name_value, needed_value, Value}
+use Rattle.description_stages.proofs.Shorts.{at_name, name_value, needed_value, Value}
 use Rattle.description_stages.proofs.Types.{typed}
 use Rattle.description_stages.proofs.Unbroken.{all_at, ports_keep, variables_keep}
 
@@ -157,10 +159,16 @@ each_listed t f (item x ps) h = (h 0 x refl, each_listed t f ps (λ i y is. h (s
 
 -- ---- the tree of a component that is read
 
-module _ (d : Data) (kept : Kept (declarations (visits d Description top)) d Description top)
+variables_list : Objects of_kind.Variables of_kind.Variable
+variables_list = record { parts = λ ps i. refl; short = λ x. refl }
+
+runnables_list : Objects of_kind.Runnables of_kind.Runnable
+runnables_list = record { parts = λ ps i. refl; short = λ x. refl }
+
+module _ (d : Data) (kept : Kept (catalog_of d) d Description top)
     (rules : list_all (λ (x : Interface). list_all (is_sound (types_reading (type_names d) d).data_types) (operations_in x.kind)) (types_reading (type_names d) d).interfaces ≡ true) where
-  abbrev ds : List Declared
-  ds = declarations (visits d Description top)
+  abbrev lists : Catalog
+  lists = catalog_of d
 
   abbrev table : TypeTable
   table = types_reading (type_names d) d
@@ -168,20 +176,13 @@ module _ (d : Data) (kept : Kept (declarations (visits d Description top)) d Des
   abbrev scope : InterfaceNames
   scope = interface_names (type_names d).mode_groups d
 
-  area_owned : (x : Data) (s : Spot) → Kept ds x of_kind.DeclaredArea s → Owns x of_kind.DeclaredArea s (place_at 0 s.around) (text_in x) × (is_name (text_in x) ≡ true)
-  area_owned x s kept = by_name (name_value ds x of_kind.DeclaredArea s refl kept)
-    where
-      by_name : Name x → Owns x of_kind.DeclaredArea s (place_at 0 s.around) (text_in x) × (is_name (text_in x) ≡ true)
-      by_name n = subst (λ y. Owns y of_kind.DeclaredArea s (place_at 0 s.around) (text_in y) × (is_name (text_in y) ≡ true)) (sym n.is)
-          (record { declared = _; is_in = inl refl; key_is = refl }, n.fits_name)
-
   module _ (i : ℕ) (c : Data) (cs : Items) (here : get_item i cs ≡ Some c) (components : get (codes "components") d ≡ Some (array cs))
-      (kept_c : Kept (declarations (visits d Description top)) c of_kind.Component (inside_part (inside top Description d (codes "components")) of_kind.Components (array cs) i))
+      (kept_c : Kept (catalog_of d) c of_kind.Component (inside_part (inside top Description d (codes "components")) of_kind.Components (array cs) i))
       (ports_kept : ports_keep (types_reading (type_names d) d) (map (port_reading (interface_names (type_names d).mode_groups d)) (items_at (codes "ports") c)) ≡ true) where
     abbrev spot : Spot
     spot = inside_part (inside top Description d (codes "components")) of_kind.Components (array cs) i
 
-    module _ (b : Data) (behavior : get (codes "behavior") c ≡ Some b) (kept_b : Kept (declarations (visits d Description top)) b of_kind.Behavior (inside (inside_part (inside top Description d (codes "components")) of_kind.Components (array cs) i) of_kind.Component c (codes "behavior")))
+    module _ (b : Data) (behavior : get (codes "behavior") c ≡ Some b) (kept_b : Kept (catalog_of d) b of_kind.Behavior (inside (inside_part (inside top Description d (codes "components")) of_kind.Components (array cs) i) of_kind.Component c (codes "behavior")))
         (initials : variables_keep (types_reading (type_names d) d) (map (variable_reading (type_names d)) (items_at (codes "variables") b)) ≡ true) where
       abbrev inner : Spot
       inner = inside spot of_kind.Component c (codes "behavior")
@@ -193,19 +194,27 @@ module _ (d : Data) (kept : Kept (declarations (visits d Description top)) d Des
       tree = record { short_name = text_at (codes "shortName") c; ports = map (port_reading scope) (items_at (codes "ports") c); behavior = behavior_reading (type_names d) scope (component_names scope c b) b }
 
       areas_named : names_fit (texts (items_at (codes "exclusiveAreas") b)) ≡ true
-      areas_named = on_list ds b of_kind.Behavior inner 0 (optional "exclusiveAreas" of_kind.DeclaredAreas) refl refl (λ v h. h) kept_b (λ xs. names_fit (texts xs) ≡ true) refl
-          (λ ps at kept_ps. names_owned ds text_in (inside inner of_kind.Behavior b (codes "exclusiveAreas")).place of_kind.DeclaredAreas (inside inner of_kind.Behavior b (codes "exclusiveAreas")) ps kept_ps
-          (λ j y is. area_owned y (inside_part (inside inner of_kind.Behavior b (codes "exclusiveAreas")) of_kind.DeclaredAreas (array ps) j) (kept_part ds ps of_kind.DeclaredAreas (inside inner of_kind.Behavior b (codes "exclusiveAreas")) j y kept_ps is)))
+      areas_named = on_list lists b of_kind.Behavior inner 0 (optional "exclusiveAreas" of_kind.DeclaredAreas) refl refl (λ v h. h) kept_b (λ xs. names_fit (texts xs) ≡ true) refl
+          (λ ps at kept_ps. names_kept text_in ps (λ j y is.
+          let spot = inside_part (inside inner of_kind.Behavior b (codes "exclusiveAreas")) of_kind.DeclaredAreas (array ps) j in
+          let kept_y = kept_part lists ps of_kind.DeclaredAreas (inside inner of_kind.Behavior b (codes "exclusiveAreas")) j y kept_ps is in
+          let name = name_value lists y of_kind.DeclaredArea spot refl kept_y in (
+            sym (owned_is d i c cs here components b behavior (λ (l : ComponentLists). stands_before l.behavior.areas (text_in y) j) spot.around refl
+                ∙ ap (λ xs. stands_before (texts xs) (text_in y) j) (items_there (codes "exclusiveAreas") b ps at)) ∙ repeated_here lists y of_kind.DeclaredArea spot kept_y,
+            subst (λ z. is_name (text_in z) ≡ true) (sym name.is) name.fits_name,
+          )))
 
       variables_so : (names_fit (map (λ (v : Variable). v.short_name) (map (variable_reading (type_names d)) (items_at (codes "variables") b))) && list_all (variable_fits table) (map (variable_reading (type_names d)) (items_at (codes "variables") b))) ≡ true
-      variables_so = on_list ds b of_kind.Behavior inner 1 (optional "variables" of_kind.Variables) refl refl (λ v h. h) kept_b
+      variables_so = on_list lists b of_kind.Behavior inner 1 (optional "variables" of_kind.Variables) refl refl (λ v h. h) kept_b
           (λ xs. variables_keep table (map (variable_reading (type_names d)) xs) ≡ true → (names_fit (map (λ (v : Variable). v.short_name) (map (variable_reading (type_names d)) xs)) && list_all (variable_fits table) (map (variable_reading (type_names d)) xs)) ≡ true) (λ h. refl)
           (λ ps at kept_ps keeps_all.
           let list = inside inner of_kind.Behavior b (codes "variables") in
-          and_from _ _ (ap names_fit (map-map (λ (v : Variable). v.short_name) (variable_reading (type_names d)) (listed ps)) ∙ short_names_fit ds of_kind.Variables of_kind.Variable list ps variables_list (λ x. refl) kept_ps)
+          and_from _ _ (ap names_fit (map-map (λ (v : Variable). v.short_name) (variable_reading (type_names d)) (listed ps)) ∙ short_names_fit lists of_kind.Variables of_kind.Variable list ps variables_list
+          (λ j y is. owned_is d i c cs here components b behavior (λ (l : ComponentLists). stands_before l.behavior.variables (text_at (codes "shortName") y) j) (at_name of_kind.Variable y (inside_part list of_kind.Variables (array ps) j).around) refl
+          ∙ ap (λ xs. stands_before (map (text_at (codes "shortName")) xs) (text_at (codes "shortName") y) j) (items_there (codes "variables") b ps at)) kept_ps)
           (all_listed (variable_fits table) (variable_reading (type_names d)) ps (λ j y is.
           let s = inside_part list of_kind.Variables (array ps) j in
-          and_from _ _ (typed d kept y of_kind.Variable s (needed_value ds y of_kind.Variable s 1 (needed "type" of_kind.TypeName) refl refl refl (kept_part ds ps of_kind.Variables list j y kept_ps is)))
+          and_from _ _ (typed d kept y of_kind.Variable s (needed_value lists y of_kind.Variable s 1 (needed "type" of_kind.TypeName) refl refl refl (kept_part lists ps of_kind.Variables list j y kept_ps is)))
           (all_at (λ (v : Variable). keeps table.data_types v.of_type v.init_value) (variable_reading (type_names d)) ps j y keeps_all is))))
           initials
 
@@ -215,28 +224,30 @@ module _ (d : Data) (kept : Kept (declarations (visits d Description top)) d Des
       abbrev low : RunnableTree → Bool
       low = runnable_low table (map (port_reading scope) (items_at (codes "ports") c)) (length (map (variable_reading (type_names d)) (items_at (codes "variables") b))) (length (texts (items_at (codes "exclusiveAreas") b)))
 
-      runnable_fine : (ps : Items) (j : ℕ) (y : Data) → Kept ds y of_kind.Runnable (inside_part (inside inner of_kind.Behavior b (codes "runnables")) of_kind.Runnables (array ps) j) → low (run y) ≡ true
-      runnable_fine ps j y kept_y =
+      runnable_fine : (ps : Items) → get (codes "runnables") b ≡ Some (array ps) → (j : ℕ) (y : Data) → get_item j ps ≡ Some y → Kept lists y of_kind.Runnable (inside_part (inside inner of_kind.Behavior b (codes "runnables")) of_kind.Runnables (array ps) j) → low (run y) ≡ true
+      runnable_fine ps at j y is kept_y =
           let s = inside_part (inside inner of_kind.Behavior b (codes "runnables")) of_kind.Runnables (array ps) j in
           and_from _ _
           (ap (λ n. list_all (access_low table (map (port_reading scope) (items_at (codes "ports") c)) n (length (texts (items_at (codes "exclusiveAreas") b)))) (map (access_reading scope names) (items_at (codes "accesses") y)) && accesses_distinct (map (access_reading scope names) (items_at (codes "accesses") y)))
           (length-map (items_at (codes "variables") b) (variable_reading (type_names d)))
           ∙ ap (λ n. list_all (access_low table (map (port_reading scope) (items_at (codes "ports") c)) (length (items_at (codes "variables") b)) n) (map (access_reading scope names) (items_at (codes "accesses") y)) && accesses_distinct (map (access_reading scope names) (items_at (codes "accesses") y)))
           (length-map (items_at (codes "exclusiveAreas") b) text_in)
-          ∙ accesses_law d kept i c cs here components kept_c b behavior y s refl kept_y)
-          (program_law ds scope names (first_names scope names (slice_get (invoked_events b) (position_in (runnable_names (invoked_events b)) (text_at (codes "shortName") y)))) y s kept_y)
+          ∙ accesses_law d kept i c cs here components kept_c b behavior y s refl (made_at access_firsts (codes "runnables") b ps j y at is) kept_y)
+          (program_law lists scope names (first_names scope names (slice_get (invoked_events b) (position_in (runnable_names (invoked_events b)) (text_at (codes "shortName") y)))) y s kept_y)
 
       runnables_so : (names_fit (map (λ (r : RunnableTree). r.short_name) (map run (items_at (codes "runnables") b))) && list_all low (map run (items_at (codes "runnables") b))) ≡ true
-      runnables_so = on_list ds b of_kind.Behavior inner 2 (optional "runnables" of_kind.Runnables) refl refl (λ v h. h) kept_b
+      runnables_so = on_list lists b of_kind.Behavior inner 2 (optional "runnables" of_kind.Runnables) refl refl (λ v h. h) kept_b
           (λ xs. (names_fit (map (λ (r : RunnableTree). r.short_name) (map run xs)) && list_all low (map run xs)) ≡ true) refl
           (λ ps at kept_ps.
           let list = inside inner of_kind.Behavior b (codes "runnables") in
-          and_from _ _ (ap names_fit (map-map (λ (r : RunnableTree). r.short_name) run (listed ps)) ∙ short_names_fit ds of_kind.Runnables of_kind.Runnable list ps runnables_list (λ x. refl) kept_ps)
-          (all_listed low run ps (λ j y is. runnable_fine ps j y (kept_part ds ps of_kind.Runnables list j y kept_ps is))))
+          and_from _ _ (ap names_fit (map-map (λ (r : RunnableTree). r.short_name) run (listed ps)) ∙ short_names_fit lists of_kind.Runnables of_kind.Runnable list ps runnables_list
+          (λ j y is. owned_is d i c cs here components b behavior (λ (l : ComponentLists). stands_before l.behavior.runnables (text_at (codes "shortName") y) j) (at_name of_kind.Runnable y (inside_part list of_kind.Runnables (array ps) j).around) refl
+          ∙ ap (λ xs. stands_before (map (text_at (codes "shortName")) xs) (text_at (codes "shortName") y) j) (items_there (codes "runnables") b ps at)) kept_ps)
+          (all_listed low run ps (λ j y is. runnable_fine ps at j y is (kept_part lists ps of_kind.Runnables list j y kept_ps is))))
 
       tree_fits : TreeFits table tree
       tree_fits = record {
-        ports = ports_law d kept c of_kind.Component spot 1 refl refl kept_c ports_kept;
+        ports = ports_law d kept c of_kind.Component spot 1 refl refl kept_c (ports_by_place d i c cs here components) ports_kept;
         areas = areas_named;
         variables = variables_so;
         runnables = runnables_so;
@@ -247,9 +258,9 @@ module _ (d : Data) (kept : Kept (declarations (visits d Description top)) d Des
       }
 
     pub component_law : variables_keep (types_reading (type_names d) d) (component_reading (scope_of d) c).behavior.variables ≡ true → TreeFits table (component_reading (scope_of d) c)
-    component_law initials = from_behavior (needed_value ds c of_kind.Component spot 2 (needed "behavior" of_kind.Behavior) refl refl refl kept_c)
+    component_law initials = from_behavior (needed_value lists c of_kind.Component spot 2 (needed "behavior" of_kind.Behavior) refl refl refl kept_c)
       where
-        from_behavior : Value ds c of_kind.Component spot (needed "behavior" of_kind.Behavior) → TreeFits table (component_reading (scope_of d) c)
+        from_behavior : Value lists c of_kind.Component spot (needed "behavior" of_kind.Behavior) → TreeFits table (component_reading (scope_of d) c)
         from_behavior v =
             let is : behavior_in c ≡ v.value = ap (λ o. unwrap_or o null) v.there in
             subst (λ y. TreeFits table (record { short_name = text_at (codes "shortName") c; ports = map (port_reading scope) (items_at (codes "ports") c); behavior = behavior_reading (type_names d) scope (component_names scope c y) y })) (sym is)
@@ -259,8 +270,8 @@ module _ (d : Data) (kept : Kept (declarations (visits d Description top)) d Des
   keeps_initials c = ports_keep table c.ports && variables_keep table c.behavior.variables
 
   pub components_law : list_all keeps_initials (map (component_reading (scope_of d)) (items_at (codes "components") d)) ≡ true → EachFits table (map (component_reading (scope_of d)) (items_at (codes "components") d))
-  components_law = on_list ds d Description top 3 (optional "components" of_kind.Components) refl refl (λ v h. h) kept
+  components_law = on_list lists d Description top 3 (optional "components" of_kind.Components) refl refl (λ v h. h) kept
       (λ xs. list_all keeps_initials (map (component_reading (scope_of d)) xs) ≡ true → EachFits table (map (component_reading (scope_of d)) xs)) (λ h. tt)
       (λ ps there kept_ps initials. each_listed table (component_reading (scope_of d)) ps (λ i x is.
       let parts = and_parts (ports_keep table (component_reading (scope_of d) x).ports) (variables_keep table (component_reading (scope_of d) x).behavior.variables) (all_at keeps_initials (component_reading (scope_of d)) ps i x initials is) in
-      component_law i x ps is there (kept_part ds ps of_kind.Components (inside top Description d (codes "components")) i x kept_ps is) parts.0 parts.1))
+      component_law i x ps is there (kept_part lists ps of_kind.Components (inside top Description d (codes "components")) i x kept_ps is) parts.0 parts.1))

@@ -1,37 +1,36 @@
 -- What the compositions of a description keep.
-use Rattle.std.proofs.Common.{◌≡◌, ℕ, List, map, length, Bool, true, false, ◌&&◌, ltb, codes, refl, sym, ap, ◌∙◌, inl, inr}
-use Rattle.std.specs.List.{list_all}
-use Rattle.std.proofs.lemmas.Bool.{and_from, cond_both, true≢false}
-use Rattle.std.proofs.lemmas.List.{length-map}
+use Rattle.std.proofs.Common.{◌≡◌, ℕ, List, map, length, Bool, true, false, ◌&&◌, ◌||◌, cond, ltb, codes, Some, refl, sym, ap, subst, ◌∙◌}
+use Rattle.std.specs.List.{list_all, slice_get}
+use Rattle.std.proofs.lemmas.Bool.{and_from}
 use mathlib.Core.List.{map-map}
-use Rattle.serde_json.specs.Data.{Data, array}
+use Rattle.serde_json.specs.Data.{Data, array, Items}
+use Rattle.serde_json.specs.Find.{get, get_item}
 use Rattle.description_places.specs.declared.kind.Kind.TheVariants as of_kind
 use Rattle.description_places.specs.declared.kind.Kind.TheVariants.{Description}
-use Rattle.description_places.specs.Around.{named, text_at, text_in}
-use Rattle.description_places.specs.Declarations.{Declared, declarations}
+use Rattle.description_places.specs.Distinct.{stands_before}
+use Rattle.declared_names.specs.declared.catalogs.Catalog.{Catalog}
+use Rattle.declared_names.specs.Catalogs.{catalog_of, composition_lists}
+use Rattle.declared_names.specs.declared.catalogs.CompositionLists.{CompositionLists}
 use Rattle.description_places.specs.Keys.{needed, optional}
-use Rattle.description_places.specs.References.{is_declared}
+use Rattle.description_places.specs.Shape.{holds}
 use Rattle.description_places.specs.Spots.{Spot, top, inside, inside_part}
-use Rattle.description_places.specs.Visits.{visits}
 use Rattle.interface_types.specs.declared.interface.TypeTable.{TypeTable}
 use Rattle.description_types.specs.declared.description.Composition.{Composition}
 use Rattle.description_types.specs.declared.description.Prototype.{Prototype}
 use Rattle.description_types.specs.declared.description.PrototypeType.{PrototypeType}
 use Rattle.description_types.specs.declared.description.PrototypeType.TheVariants as of
 use Rattle.declared_names.specs.declared.scopes.InterfaceNames.{InterfaceNames}
-use Rattle.declared_names.specs.Names.{position_in, short_names}
+use Rattle.declared_names.specs.Names.{has_name, position_in, short_names}
 use Rattle.declared_names.specs.Scopes.{interface_names, prototype_names, type_names}
-use Rattle.declared_names.specs.Values.{items_at, listed}
+use Rattle.declared_names.specs.Values.{items_at, listed, text_at, text_in}
 use Rattle.component_model.specs.Compositions.{composition_reading, prototype_reading, type_named}
 use Rattle.component_model.specs.Types.{types_reading}
 use Rattle.plan_definitions.specs.WellFormed.{names_fit, ports_fit}
 use Rattle.description_stages.proofs.Kept.{Kept, kept_part, found_here}
-use Rattle.description_stages.proofs.Listings.{Objects}
-use Rattle.description_stages.proofs.Naming.{all_listed, on_list, short_names_fit}
-use Rattle.description_stages.proofs.Ports.{ports_law, refers}
-use Rattle.description_stages.proofs.Positions.{below}
-use Rattle.description_stages.proofs.Roots.{found_type, TypeItem}
-use Rattle.description_stages.proofs.Shorts.{name_value, needed_value}
+use Rattle.description_stages.proofs.Naming.{all_listed, ByPlace, Objects, on_list, short_names_fit}
+use Rattle.description_stages.proofs.Ports.{ports_law}
+use Rattle.description_stages.proofs.Positions.{items_there, low_in, made_at}
+use Rattle.description_stages.proofs.Shorts.{needed_value, text_there}
 use Rattle.description_stages.proofs.Unbroken.{all_at, ports_keep}
 
 -- a prototype is of one of so many components or compositions
@@ -46,11 +45,11 @@ fits_composition t m n c =
     && (names_fit (map (λ (p : Prototype). p.short_name) c.prototypes) && list_all (λ (p : Prototype). type_low m n p.of_type) c.prototypes)
 
 prototypes_list : Objects of_kind.Prototypes of_kind.Prototype
-prototypes_list = record { holds = λ ps. refl; parts = λ ps i. refl; named = λ x. refl; short = λ x. refl }
+prototypes_list = record { parts = λ ps i. refl; short = λ x. refl }
 
-module _ (d : Data) (kept : Kept (declarations (visits d Description top)) d Description top) where
-  abbrev ds : List Declared
-  ds = declarations (visits d Description top)
+module _ (d : Data) (kept : Kept (catalog_of d) d Description top) where
+  abbrev lists : Catalog
+  lists = catalog_of d
 
   abbrev components : List Data
   components = items_at (codes "components") d
@@ -58,35 +57,52 @@ module _ (d : Data) (kept : Kept (declarations (visits d Description top)) d Des
   abbrev compositions : List Data
   compositions = items_at (codes "compositions") d
 
-  type_found : (name : List ℕ) → TypeItem d name → type_low (length components) (length compositions) (type_named (prototype_names d) name) ≡ true
-  type_found name o = cond_both (ltb (position_in (short_names components) name) (length (short_names components))) (of.Component (position_in (short_names components) name)) (of.Composition (position_in (short_names compositions) name))
-      (λ t. type_low (length components) (length compositions) t ≡ true)
-      (λ low. ap (ltb (position_in (short_names components) name)) (sym (length-map components (text_at (codes "shortName")))) ∙ low)
-      (λ high. by_case o high)
+  type_found : (name : List ℕ) → (has_name (short_names components) name || has_name (short_names compositions) name) ≡ true → type_low (length components) (length compositions) (type_named (prototype_names d) name) ≡ true
+  type_found name h = by_test (has_name (short_names components) name) refl h
     where
-      by_case : TypeItem d name → ltb (position_in (short_names components) name) (length (short_names components)) ≡ false → ltb (position_in (short_names compositions) name) (length compositions) ≡ true
-      by_case (inr o) high = below (text_at (codes "shortName")) (codes "compositions") d name o
-      by_case (inl o) high = absurd (true≢false (sym (below (text_at (codes "shortName")) (codes "components") d name o) ∙ ap (ltb (position_in (short_names components) name)) (sym (length-map components (text_at (codes "shortName")))) ∙ high))
+      by_test : (b : Bool) → has_name (short_names components) name ≡ b → (b || has_name (short_names compositions) name) ≡ true → type_low (length components) (length compositions) (type_named (prototype_names d) name) ≡ true
+      by_test true e k = ap (λ b. type_low (length components) (length compositions) (cond b (of.Component (position_in (short_names components) name)) (of.Composition (position_in (short_names compositions) name)))) e
+          ∙ low_in (text_at (codes "shortName")) components name e
+      by_test false e k = ap (λ b. type_low (length components) (length compositions) (cond b (of.Component (position_in (short_names components) name)) (of.Composition (position_in (short_names compositions) name)))) e
+          ∙ low_in (text_at (codes "shortName")) compositions name k
 
-  prototype_low : (x : Data) (s : Spot) → Kept ds x of_kind.Prototype s → type_low (length components) (length compositions) (type_named (prototype_names d) (text_at (codes "type") x)) ≡ true
+  prototype_low : (x : Data) (s : Spot) → Kept lists x of_kind.Prototype s → type_low (length components) (length compositions) (type_named (prototype_names d) (text_at (codes "type") x)) ≡ true
   prototype_low x s kept_x =
-      let v = needed_value ds x of_kind.Prototype s 1 (needed "type" of_kind.PrototypeTypeName) refl refl refl kept_x in
-      let r = refers ds x of_kind.Prototype s (needed "type" of_kind.PrototypeTypeName) v (name_value ds v.value of_kind.PrototypeTypeName (inside s of_kind.Prototype x (codes "type")) refl v.kept)
-      (λ y. is_declared ds (named (codes "/components") (text_in y)) ≡ true) (found_here ds v.value of_kind.PrototypeTypeName (inside s of_kind.Prototype x (codes "type")) v.kept) in
-      ap (λ t. type_low (length components) (length compositions) (type_named (prototype_names d) t)) r.read ∙ type_found r.text (found_type d kept r.text r.fits_name r.found)
+      let v = needed_value lists x of_kind.Prototype s 1 (needed "type" of_kind.PrototypeTypeName) refl refl refl kept_x in
+      subst (λ t. type_low (length components) (length compositions) (type_named (prototype_names d) t) ≡ true) (sym (text_there lists x of_kind.Prototype s (needed "type" of_kind.PrototypeTypeName) v))
+      (type_found (text_in v.value) (found_here lists v.value of_kind.PrototypeTypeName (inside s of_kind.Prototype x (codes "type")) v.kept))
 
-  prototypes_fit : (x : Data) (s : Spot) → Kept ds x of_kind.Composition s
-      → (names_fit (map (λ (p : Prototype). p.short_name) (map (prototype_reading (prototype_names d)) (items_at (codes "prototypes") x)))
-      && list_all (λ (p : Prototype). type_low (length components) (length compositions) p.of_type) (map (prototype_reading (prototype_names d)) (items_at (codes "prototypes") x))) ≡ true
-  prototypes_fit x s kept_x = on_list ds x of_kind.Composition s 2 (optional "prototypes" of_kind.Prototypes) refl refl (λ v h. h) kept_x
-      (λ xs. (names_fit (map (λ (p : Prototype). p.short_name) (map (prototype_reading (prototype_names d)) xs))
-      && list_all (λ (p : Prototype). type_low (length components) (length compositions) p.of_type) (map (prototype_reading (prototype_names d)) xs)) ≡ true) refl
-      (λ ps there kept_ps.
-      let list = inside s of_kind.Composition x (codes "prototypes") in
-      and_from _ _
-      (ap names_fit (map-map (λ (p : Prototype). p.short_name) (prototype_reading (prototype_names d)) (listed ps)) ∙ short_names_fit ds of_kind.Prototypes of_kind.Prototype list ps prototypes_list (λ x. refl) kept_ps)
-      (all_listed (λ (p : Prototype). type_low (length components) (length compositions) p.of_type) (prototype_reading (prototype_names d)) ps (λ i y is.
-      prototype_low y (inside_part list of_kind.Prototypes (array ps) i) (kept_part ds ps of_kind.Prototypes list i y kept_ps is))))
+  -- a composition, one of them all
+  module _ (cs : Items) (composed : get (codes "compositions") d ≡ Some (array cs)) (i : ℕ) (c : Data) (here : get_item i cs ≡ Some c) where
+    abbrev made : Data → CompositionLists
+    made = composition_lists (short_names (items_at (codes "interfaces") d)) (short_names components) (short_names compositions)
+
+    composition_there : slice_get lists.prototypes.in_compositions i ≡ Some (made c)
+    composition_there = made_at made (codes "compositions") d cs i c composed here
+
+    abbrev at : Spot
+    at = inside_part (inside top Description d (codes "compositions")) of_kind.Compositions (array cs) i
+
+    prototypes_fit : Kept lists c of_kind.Composition at
+        → (names_fit (map (λ (p : Prototype). p.short_name) (map (prototype_reading (prototype_names d)) (items_at (codes "prototypes") c)))
+        && list_all (λ (p : Prototype). type_low (length components) (length compositions) p.of_type) (map (prototype_reading (prototype_names d)) (items_at (codes "prototypes") c))) ≡ true
+    prototypes_fit kept_c = on_list lists c of_kind.Composition at 2 (optional "prototypes" of_kind.Prototypes) refl refl (λ v h. h) kept_c
+        (λ xs. (names_fit (map (λ (p : Prototype). p.short_name) (map (prototype_reading (prototype_names d)) xs))
+        && list_all (λ (p : Prototype). type_low (length components) (length compositions) p.of_type) (map (prototype_reading (prototype_names d)) xs)) ≡ true) refl
+        (λ ps there kept_ps.
+        let list = inside at of_kind.Composition c (codes "prototypes") in
+        and_from _ _
+        (ap names_fit (map-map (λ (p : Prototype). p.short_name) (prototype_reading (prototype_names d)) (listed ps))
+        ∙ short_names_fit lists of_kind.Prototypes of_kind.Prototype list ps prototypes_list
+        (λ j y is. ap (holds (λ (l : CompositionLists). stands_before l.prototypes (text_at (codes "shortName") y) j)) composition_there
+        ∙ ap (λ xs. stands_before (map (text_at (codes "shortName")) xs) (text_at (codes "shortName") y) j) (items_there (codes "prototypes") c ps there)) kept_ps)
+        (all_listed (λ (p : Prototype). type_low (length components) (length compositions) p.of_type) (prototype_reading (prototype_names d)) ps (λ j y is.
+        prototype_low y (inside_part list of_kind.Prototypes (array ps) j) (kept_part lists ps of_kind.Prototypes list j y kept_ps is))))
+
+    ports_by_place : (ps : Items) → get (codes "ports") c ≡ Some (array ps) → ByPlace lists of_kind.Ports of_kind.Port (inside at of_kind.Composition c (codes "ports")) ps
+    ports_by_place ps there j y is =
+        ap (holds (λ (l : CompositionLists). stands_before l.ports.names (text_at (codes "shortName") y) j)) composition_there
+        ∙ ap (λ xs. stands_before (map (text_at (codes "shortName")) xs) (text_at (codes "shortName") y) j) (items_there (codes "ports") c ps there)
 
   abbrev table : TypeTable
   table = types_reading (type_names d) d
@@ -96,13 +112,13 @@ module _ (d : Data) (kept : Kept (declarations (visits d Description top)) d Des
 
   pub compositions_law : list_all (λ (c : Composition). ports_keep table c.ports) (map (composition_reading interfaces (prototype_names d)) compositions) ≡ true
       → list_all (fits_composition table (length components) (length compositions)) (map (composition_reading interfaces (prototype_names d)) compositions) ≡ true
-  compositions_law = on_list ds d Description top 4 (optional "compositions" of_kind.Compositions) refl refl (λ v h. h) kept
+  compositions_law = on_list lists d Description top 4 (optional "compositions" of_kind.Compositions) refl refl (λ v h. h) kept
       (λ xs. list_all (λ (c : Composition). ports_keep table c.ports) (map (composition_reading interfaces (prototype_names d)) xs) ≡ true
       → list_all (fits_composition table (length components) (length compositions)) (map (composition_reading interfaces (prototype_names d)) xs) ≡ true) (λ h. refl)
       (λ ps there kept_ps keeps. all_listed (fits_composition table (length components) (length compositions)) (composition_reading interfaces (prototype_names d)) ps (λ i x is.
       let list = inside top Description d (codes "compositions") in
-      let at = inside_part list of_kind.Compositions (array ps) i in
-      let kept_x = kept_part ds ps of_kind.Compositions list i x kept_ps is in
+      let spot = inside_part list of_kind.Compositions (array ps) i in
+      let kept_x = kept_part lists ps of_kind.Compositions list i x kept_ps is in
       and_from _ _
-      (ports_law d kept x of_kind.Composition at 1 refl refl kept_x (all_at (λ (c : Composition). ports_keep table c.ports) (composition_reading interfaces (prototype_names d)) ps i x keeps is))
-      (prototypes_fit x at kept_x)))
+      (ports_law d kept x of_kind.Composition spot 1 refl refl kept_x (ports_by_place ps there i x is) (all_at (λ (c : Composition). ports_keep table c.ports) (composition_reading interfaces (prototype_names d)) ps i x keeps is))
+      (prototypes_fit ps there i x is kept_x)))

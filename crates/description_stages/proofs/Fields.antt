@@ -1,27 +1,21 @@
 -- What a description that is read keeps, field by field.
-use Rattle.std.proofs.Common.{◌≡◌, map, length, true, ltb, codes, [], Some, sym, ap, subst, refl, ◌∙◌}
-use Rattle.std.specs.Option.{option_and_then, unwrap_or}
+use Rattle.std.proofs.Common.{◌≡◌, map, length, true, ltb, codes, sym, ap, subst, refl}
 use Rattle.serde_json.specs.Data.{Data}
-use Rattle.serde_json.specs.Find.{as_str}
 use Rattle.description_places.specs.declared.kind.Kind.TheVariants as of_kind
 use Rattle.description_places.specs.declared.kind.Kind.TheVariants.{Description as Whole_kind}
-use Rattle.description_places.specs.Around.{named, text_at, text_in}
-use Rattle.description_places.specs.Declarations.{declarations}
+use Rattle.declared_names.specs.Catalogs.{catalog_of}
 use Rattle.description_places.specs.Keys.{needed}
-use Rattle.description_places.specs.References.{is_declared_composition}
 use Rattle.description_places.specs.Spots.{top, inside}
-use Rattle.description_places.specs.Visits.{visits}
 use Rattle.description_types.specs.declared.description.Description.{Description}
 use Rattle.declared_names.specs.Names.{position_in, short_names}
-use Rattle.declared_names.specs.Values.{items_at}
+use Rattle.declared_names.specs.Values.{items_at, text_at, text_in}
 use Rattle.component_model.specs.Descriptions.{description_of, reading, DescriptionTree}
 use Rattle.plan_definitions.specs.WellFormed.{component_fits, composition_fits, IsWellFormed, mapping_fits, prototype_fits, types_fit}
 use Rattle.description_stages.proofs.Beginning.{Whole}
 use Rattle.description_stages.proofs.Kept.{Kept, found_here}
 use Rattle.description_stages.proofs.Mappings.{fits_mapping, mapping_law}
-use Rattle.description_stages.proofs.Positions.{below}
-use Rattle.description_stages.proofs.Roots.{found_root}
-use Rattle.description_stages.proofs.Shorts.{name_value, needed_value}
+use Rattle.description_stages.proofs.Positions.{low}
+use Rattle.description_stages.proofs.Shorts.{needed_value, text_there}
 use Rattle.description_stages.proofs.Types.{types_law}
 use Rattle.description_stages.proofs.Components.{components_from, components_law, EachFits}
 use Rattle.description_stages.proofs.Compositions.{compositions_law, fits_composition, type_low}
@@ -38,32 +32,26 @@ use Rattle.component_model.specs.Programs.{component_reading, component_tree}
 use Rattle.declared_names.specs.Scopes.{scope_of}
 use Rattle.plan_definitions.specs.WellFormed.{names_fit, ports_fit}
 
-pub mapping : (d : Description) → Whole (description_of d) → mapping_fits d ≡ true
+mapping : (d : Description) → Whole (description_of d) → mapping_fits d ≡ true
 mapping d w = subst (λ m. fits_mapping m ≡ true) (sym (ap (λ (t : DescriptionTree). t.mapping) w.is_reading)) (mapping_law w.value w.kept)
 
-root_law : (d : Data) → Kept (declarations (visits d Whole_kind top)) d Whole_kind top → ltb (reading d).root (length (reading d).compositions) ≡ true
+root_law : (d : Data) → Kept (catalog_of d) d Whole_kind top → ltb (reading d).root (length (reading d).compositions) ≡ true
 root_law d kept =
-    let v = needed_value (declarations (visits d Whole_kind top)) d Whole_kind top 5 (needed "root" of_kind.RootName) refl refl refl kept in
-    let at = inside top Whole_kind d (codes "root") in
-    let name = name_value (declarations (visits d Whole_kind top)) v.value of_kind.RootName at refl v.kept in
-    let text_is : text_at (codes "root") d ≡ name.text = ap (λ o. unwrap_or (option_and_then as_str o) []) (v.there ∙ ap (λ y. Some y) name.is) in
-    let found = found_here (declarations (visits d Whole_kind top)) v.value of_kind.RootName at v.kept in
-    let listed = found_root d kept name.text name.fits_name (subst (λ y. is_declared_composition (declarations (visits d Whole_kind top)) (named (codes "/components") (text_in y)) ≡ true) name.is found) in
-    ap (λ t. ltb (position_in (short_names (items_at (codes "compositions") d)) t) (length (reading d).compositions)) text_is
-    ∙ ap (ltb (position_in (short_names (items_at (codes "compositions") d)) name.text)) (length-map (items_at (codes "compositions") d) _)
-    ∙ below (text_at (codes "shortName")) (codes "compositions") d name.text listed
+    let v = needed_value (catalog_of d) d Whole_kind top 5 (needed "root" of_kind.RootName) refl refl refl kept in
+    subst (λ t. ltb (position_in (short_names (items_at (codes "compositions") d)) t) (length (reading d).compositions) ≡ true) (sym (text_there (catalog_of d) d Whole_kind top (needed "root" of_kind.RootName) v))
+    (low (text_at (codes "shortName")) _ (items_at (codes "compositions") d) (text_in v.value) (found_here (catalog_of d) v.value of_kind.RootName (inside top Whole_kind d (codes "root")) v.kept))
 
-pub root : (d : Description) → Whole (description_of d) → ltb d.root (length d.compositions) ≡ true
+root : (d : Description) → Whole (description_of d) → ltb d.root (length d.compositions) ≡ true
 root d w = subst (λ (t : DescriptionTree). ltb t.root (length t.compositions) ≡ true) (sym w.is_reading) (root_law w.value w.kept)
 
-pub types : (d : Description) → Whole (description_of d) → types_fit d.types ≡ true
+types : (d : Description) → Whole (description_of d) → types_fit d.types ≡ true
 types d w = subst (λ (t : DescriptionTree). types_fit t.types ≡ true) (sym w.is_reading) (types_law w.value w.kept w.types)
 
 -- compositions, over the numbers of components and compositions
 abbrev tree_fits : DescriptionTree → Type 0
 tree_fits t = list_all (fits_composition t.types (length t.components) (length t.compositions)) t.compositions ≡ true
 
-read_compositions : (d : Data) → Kept (declarations (visits d Whole_kind top)) d Whole_kind top → list_all (λ (c : Composition). ports_keep (reading d).types c.ports) (reading d).compositions ≡ true → tree_fits (reading d)
+read_compositions : (d : Data) → Kept (catalog_of d) d Whole_kind top → list_all (λ (c : Composition). ports_keep (reading d).types c.ports) (reading d).compositions ≡ true → tree_fits (reading d)
 read_compositions d kept h =
     subst (λ n. list_all (fits_composition (reading d).types n (length (reading d).compositions)) (reading d).compositions ≡ true) (sym (length-map (items_at (codes "components") d) (component_reading (scope_of d))))
     (subst (λ n. list_all (fits_composition (reading d).types (length (items_at (codes "components") d)) n) (reading d).compositions ≡ true) (sym (length-map (items_at (codes "compositions") d) _))
@@ -79,13 +67,13 @@ fits_so d c h =
     let more = and_parts (names_fit (map (λ (p : Prototype). p.short_name) c.prototypes)) _ parts.1 in
     and_from _ _ parts.0 (and_from _ _ more.0 (list_all_more (λ (p : Prototype). type_low (length d.components) (length d.compositions) p.of_type) (λ (p : Prototype). prototype_fits d p.of_type) (λ p. low_so d p.of_type) c.prototypes more.1))
 
-pub compositions : (d : Description) → Whole (description_of d) → list_all (composition_fits d) d.compositions ≡ true
+compositions : (d : Description) → Whole (description_of d) → list_all (composition_fits d) d.compositions ≡ true
 compositions d w =
     let of_tree : tree_fits (description_of d) = subst tree_fits (sym w.is_reading) (read_compositions w.value w.kept (initials_kept (reading w.value) w.initials).1) in
     list_all_more (fits_composition d.types (length d.components) (length d.compositions)) (composition_fits d) (fits_so d) d.compositions
     (subst (λ n. list_all (fits_composition d.types n (length d.compositions)) d.compositions ≡ true) (length-map d.components component_tree) of_tree)
 
-pub components : (d : Description) → Whole (description_of d) → list_all (component_fits d.types) d.components ≡ true
+components : (d : Description) → Whole (description_of d) → list_all (component_fits d.types) d.components ≡ true
 components d w =
     let rules = (types_kept (reading w.value).types w.types).1 in
     let each : EachFits (reading w.value).types (reading w.value).components = components_law w.value w.kept rules (initials_kept (reading w.value) w.initials).0 in

@@ -13,8 +13,7 @@ use Rattle.description_places.specs.declared.form.Form.TheVariants as form
 use Rattle.description_places.specs.declared.kind.Kind.{Kind}
 use Rattle.description_places.specs.declared.kind.Kind.TheVariants as of_kind
 use Rattle.description_places.specs.Alternatives.{Choice, choices_of, resolved}
-use Rattle.description_places.specs.Around.{text_in, text_part}
-use Rattle.description_places.specs.Declarations.{Declared}
+use Rattle.declared_names.specs.declared.catalogs.Catalog.{Catalog}
 use Rattle.description_places.specs.Forms.{form_of}
 use Rattle.description_places.specs.Keys.{optional}
 use Rattle.description_places.specs.Rows.{row_of}
@@ -24,7 +23,7 @@ use Rattle.description_places.specs.Visits.{part_of}
 use Rattle.declared_names.specs.declared.in_component.ComponentNames.{ComponentNames}
 use Rattle.declared_names.specs.declared.scopes.InterfaceNames.{InterfaceNames}
 use Rattle.declared_names.specs.Names.{Names, position_in}
-use Rattle.declared_names.specs.Values.{below as under, items_of}
+use Rattle.declared_names.specs.Values.{below as under, items_of, text_in, text_of_part}
 use Rattle.program_reading.specs.declared.keywords.Keyword.{Keyword}
 use Rattle.program_reading.specs.declared.keywords.Keyword.TheVariants as keyword
 use Rattle.program_reading.specs.Expressions.{expr_of, expr_reading, expr_readings}
@@ -33,7 +32,7 @@ use Rattle.program_reading.specs.Programs.{program_reading}
 use Rattle.program_reading.specs.Statements.{block, blocks, body_part, Context, expr_part, expr_seen, exprs_part, statement, times_part, var_part, vars_part}
 use Rattle.program_reading.specs.Variables.{added, all_added, among_parts, names_in, names_in_each, variables_of}
 use Rattle.bus_semantics.specs.SoundPrograms.{each_in, each_of, expr_sound, gives, is_in_range, is_well_formed, takes}
-use Rattle.description_stages.proofs.Hits.{on_array}
+use Rattle.description_stages.proofs.Shapes.{on_array}
 use Rattle.description_stages.proofs.Kept.{Kept, kept_part, shape_here}
 use Rattle.description_stages.proofs.Lists.{IsIn}
 use Rattle.description_stages.proofs.Naming.{all_listed}
@@ -197,18 +196,18 @@ slice_exprs (item p ps) zero x h = ap (λ y. Some (expr_reading y)) (same_Some p
 slice_exprs (item p ps) (suc n) x h = slice_exprs ps n x h
 
 -- a value that is kept, and whose names the variables have
-pub record Well (ds : List Declared) (vars : Names) (x : Data) (kind : Kind) (s : Spot) : Type 0 where
-  pub kept : Kept ds x kind s
+pub record Well (lists : Catalog) (vars : Names) (x : Data) (kind : Kind) (s : Spot) : Type 0 where
+  pub kept : Kept lists x kind s
   pub named : list_all (has vars) (names_in x kind) ≡ true
 
 -- such a part of an array
-pub record WellPart (ds : List Declared) (vars : Names) (ps : Items) (part : Kind) (n : ℕ) : Type 0 where
+pub record WellPart (lists : Catalog) (vars : Names) (ps : Items) (part : Kind) (n : ℕ) : Type 0 where
   pub value : Data
   pub spot : Spot
   pub there : get_item n ps ≡ Some value
-  pub well : Well ds vars value part spot
+  pub well : Well lists vars value part spot
 
-module _ (ds : List Declared) (vars : Names) where
+module _ (lists : Catalog) (vars : Names) where
   part_named : (ps : Items) (kind : Kind) (n : ℕ) (x : Data) → list_all (has vars) (names_in (array ps) kind) ≡ true → get_item n ps ≡ Some x
       → list_all (has vars) (names_in x (part_of (form_of (resolved kind (array ps))) (resolved kind (array ps)) n)) ≡ true
   part_named ps kind n x h is =
@@ -216,59 +215,59 @@ module _ (ds : List Declared) (vars : Names) where
       let start : 0 + n ≡ n = omega arith in
       subst (λ m. list_all (has vars) (names_in x (part_of (form_of found) found m)) ≡ true) start (names_part (has vars) (part_of (form_of found) found) 0 ps n x h is)
 
-  row_well : (ps : Items) (kind other : Kind) (s : Spot) (n : ℕ) → resolved kind (array ps) ≡ other → form_of other ≡ form.Row → ltb n (length (row_of other)) ≡ true → Well ds vars (array ps) kind s
-      → WellPart ds vars ps (slice_index_or (row_of other) n of_kind.Anything) n
+  row_well : (ps : Items) (kind other : Kind) (s : Spot) (n : ℕ) → resolved kind (array ps) ≡ other → form_of other ≡ form.Row → ltb n (length (row_of other)) ≡ true → Well lists vars (array ps) kind s
+      → WellPart lists vars ps (slice_index_or (row_of other) n of_kind.Anything) n
   row_well ps kind other s n found row low w =
       let found_row : form_of (resolved kind (array ps)) ≡ form.Row = ap form_of found ∙ row in
-      let v = row_part ds (array ps) kind s n found_row (ap (λ k. ltb n (length (row_of k))) found ∙ low) w.kept in
+      let v = row_part lists (array ps) kind s n found_row (ap (λ k. ltb n (length (row_of k))) found ∙ low) w.kept in
       record {
         value = v.value;
         spot = inside_part s (resolved kind (array ps)) (array ps) n;
         there = v.there;
         well = record {
-          kept = subst (λ k. Kept ds v.value (slice_index_or (row_of k) n of_kind.Anything) (inside_part s (resolved kind (array ps)) (array ps) n)) found v.kept;
+          kept = subst (λ k. Kept lists v.value (slice_index_or (row_of k) n of_kind.Anything) (inside_part s (resolved kind (array ps)) (array ps) n)) found v.kept;
           named = subst (λ k. list_all (has vars) (names_in v.value (slice_index_or (row_of k) n of_kind.Anything)) ≡ true) found
               (subst (λ f. list_all (has vars) (names_in v.value (part_of f (resolved kind (array ps)) n)) ≡ true) found_row (part_named ps kind n v.value w.named v.there));
         };
       }
 
-  item_well : (ps : Items) (kind part : Kind) (s : Spot) → ((n : ℕ) → part_of (form_of (resolved kind (array ps))) (resolved kind (array ps)) n ≡ part) → Well ds vars (array ps) kind s → (n : ℕ) (x : Data) → get_item n ps ≡ Some x
-      → Well ds vars x part (inside_part s (resolved kind (array ps)) (array ps) n)
+  item_well : (ps : Items) (kind part : Kind) (s : Spot) → ((n : ℕ) → part_of (form_of (resolved kind (array ps))) (resolved kind (array ps)) n ≡ part) → Well lists vars (array ps) kind s → (n : ℕ) (x : Data) → get_item n ps ≡ Some x
+      → Well lists vars x part (inside_part s (resolved kind (array ps)) (array ps) n)
   item_well ps kind _ s parts w n x is = record {
-    kept = subst (λ k. Kept ds x k (inside_part s (resolved kind (array ps)) (array ps) n)) (parts n) (kept_part ds ps kind s n x w.kept is);
+    kept = subst (λ k. Kept lists x k (inside_part s (resolved kind (array ps)) (array ps) n)) (parts n) (kept_part lists ps kind s n x w.kept is);
     named = subst (λ k. list_all (has vars) (names_in x k) ≡ true) (parts n) (part_named ps kind n x w.named is);
   }
 
   -- ---- variables
 
-  local_low : (x : Data) (s : Spot) → Well ds vars x of_kind.LocalName s → ltb (position_in vars (text_in x)) (length vars) ≡ true
+  local_low : (x : Data) (s : Spot) → Well lists vars x of_kind.LocalName s → ltb (position_in vars (text_in x)) (length vars) ≡ true
   local_low x s w =
-      let name = name_value ds x of_kind.LocalName s refl w.kept in
+      let name = name_value lists x of_kind.LocalName s refl w.kept in
       let named : list_all (has vars) (names_in (string name.text) of_kind.LocalName) ≡ true = subst (λ y. list_all (has vars) (names_in y of_kind.LocalName) ≡ true) name.is w.named in
       ap (λ y. ltb (position_in vars (text_in y)) (length vars)) name.is ∙ has_position vars name.text (and_parts (has vars name.text) true named).0
 
-  locals_low : (x : Data) (s : Spot) → Well ds vars x of_kind.LocalNames s → takes (length vars) (map (λ v. position_in vars (text_in v)) (items_of (as_array x))) ≡ true
+  locals_low : (x : Data) (s : Spot) → Well lists vars x of_kind.LocalNames s → takes (length vars) (map (λ v. position_in vars (text_in v)) (items_of (as_array x))) ≡ true
   locals_low x s w =
-      on_array (λ y. Well ds vars y of_kind.LocalNames s → takes (length vars) (map (λ v. position_in vars (text_in v)) (items_of (as_array y))) ≡ true)
+      on_array (λ y. Well lists vars y of_kind.LocalNames s → takes (length vars) (map (λ v. position_in vars (text_in v)) (items_of (as_array y))) ≡ true)
       (λ ps w. all_listed (λ v. ltb v (length vars)) (λ v. position_in vars (text_in v)) ps (λ n y is.
       local_low y (inside_part s of_kind.LocalNames (array ps) n) (item_well ps of_kind.LocalNames of_kind.LocalName s (λ n. refl) w n y is)))
-      x (shape_here ds x of_kind.LocalNames s w.kept) w
+      x (shape_here lists x of_kind.LocalNames s w.kept) w
 
   -- ---- expressions
 
-  operator_parts : (ps : Items) (s : Spot) → Well ds vars (array ps) of_kind.Expression s → WellPart ds vars ps of_kind.Expression 1 × WellPart ds vars ps of_kind.Expression 2
-  operator_parts ps s w = by_choice (spoken (array ps) (choices_of of_kind.Expression) of_kind.UnknownExpression (never_nothing ds (array ps) of_kind.Expression s w.kept of_kind.UnknownExpression refl))
+  operator_parts : (ps : Items) (s : Spot) → Well lists vars (array ps) of_kind.Expression s → WellPart lists vars ps of_kind.Expression 1 × WellPart lists vars ps of_kind.Expression 2
+  operator_parts ps s w = by_choice (spoken (array ps) (choices_of of_kind.Expression) of_kind.UnknownExpression (never_nothing lists (array ps) of_kind.Expression s w.kept of_kind.UnknownExpression refl))
     where
-      operator : (k : Kind) → resolved of_kind.Expression (array ps) ≡ of_kind.Operator → WellPart ds vars ps of_kind.Expression 1 × WellPart ds vars ps of_kind.Expression 2
+      operator : (k : Kind) → resolved of_kind.Expression (array ps) ≡ of_kind.Operator → WellPart lists vars ps of_kind.Expression 1 × WellPart lists vars ps of_kind.Expression 2
       operator k e = (row_well ps of_kind.Expression of_kind.Operator s 1 e refl refl w, row_well ps of_kind.Expression of_kind.Operator s 2 e refl refl w)
 
-      by_choice : Spoken (array ps) (choices_of of_kind.Expression) (resolved of_kind.Expression (array ps)) → WellPart ds vars ps of_kind.Expression 1 × WellPart ds vars ps of_kind.Expression 2
+      by_choice : Spoken (array ps) (choices_of of_kind.Expression) (resolved of_kind.Expression (array ps)) → WellPart lists vars ps of_kind.Expression 1 × WellPart lists vars ps of_kind.Expression 2
       by_choice f = by_case f.picked.one
         where
           found : (k : Choice) → f.picked.choice ≡ k → resolved of_kind.Expression (array ps) ≡ k.kind
           found k e = f.picked.kind_is ∙ ap (λ (j : Choice). j.kind) e
 
-          by_case : IsIn f.picked.choice (choices_of of_kind.Expression) → WellPart ds vars ps of_kind.Expression 1 × WellPart ds vars ps of_kind.Expression 2
+          by_case : IsIn f.picked.choice (choices_of of_kind.Expression) → WellPart lists vars ps of_kind.Expression 1 × WellPart lists vars ps of_kind.Expression 2
           by_case (inl e) = operator of_kind.Operator (found _ e)
           by_case (inr (inl e)) = operator of_kind.Operator (found _ e)
           by_case (inr (inr (inl e))) = operator of_kind.Operator (found _ e)
@@ -279,14 +278,14 @@ module _ (ds : List Declared) (vars : Names) where
           by_case (inr (inr (inr (inr (inr (inr (inr (inl e)))))))) = operator of_kind.Operator (found _ e)
           by_case (inr (inr (inr (inr (inr (inr (inr (inr none)))))))) = absurd none
 
-  both_sound : (ps : Items) (p : WellPart ds vars ps of_kind.Expression 1) (q : WellPart ds vars ps of_kind.Expression 2)
+  both_sound : (ps : Items) (p : WellPart lists vars ps of_kind.Expression 1) (q : WellPart lists vars ps of_kind.Expression 2)
       → expr_sound (length vars) (expr_reading p.value vars) ≡ true → expr_sound (length vars) (expr_reading q.value vars) ≡ true → expr_sound (length vars) (expr_reading (array ps) vars) ≡ true
   both_sound ps p q a b = and_from _ _
       (ap (λ o. expr_sound (length vars) (expr_of vars o)) (slice_exprs ps 1 p.value p.there) ∙ a)
       (ap (λ o. expr_sound (length vars) (expr_of vars o)) (slice_exprs ps 2 q.value q.there) ∙ b)
 
   mutual
-    expression_sound : (x : Data) (s : Spot) → Well ds vars x of_kind.Expression s → expr_sound (length vars) (expr_reading x vars) ≡ true
+    expression_sound : (x : Data) (s : Spot) → Well lists vars x of_kind.Expression s → expr_sound (length vars) (expr_reading x vars) ≡ true
     expression_sound null s w = refl
     expression_sound (boolean b) s w = refl
     expression_sound (number n) s w = refl
@@ -296,18 +295,18 @@ module _ (ds : List Declared) (vars : Names) where
         both_sound ps parts.0 parts.1 (expression_at ps 1 parts.0.value parts.0.spot parts.0.there parts.0.well) (expression_at ps 2 parts.1.value parts.1.spot parts.1.there parts.1.well)
     expression_sound (object ms) s w = refl
 
-    expression_at : (ps : Items) (n : ℕ) (x : Data) (s : Spot) → get_item n ps ≡ Some x → Well ds vars x of_kind.Expression s → expr_sound (length vars) (expr_reading x vars) ≡ true
+    expression_at : (ps : Items) (n : ℕ) (x : Data) (s : Spot) → get_item n ps ≡ Some x → Well lists vars x of_kind.Expression s → expr_sound (length vars) (expr_reading x vars) ≡ true
     expression_at no_items n x s is w = absurd (none-some x is)
     expression_at (item p ps) zero x s is w =
-        subst (λ y. expr_sound (length vars) (expr_reading y vars) ≡ true) (same_Some p x is) (expression_sound p s (subst (λ y. Well ds vars y of_kind.Expression s) (sym (same_Some p x is)) w))
+        subst (λ y. expr_sound (length vars) (expr_reading y vars) ≡ true) (same_Some p x is) (expression_sound p s (subst (λ y. Well lists vars y of_kind.Expression s) (sym (same_Some p x is)) w))
     expression_at (item p ps) (suc n) x s is w = expression_at ps n x s is w
 
-  expressions_sound : (x : Data) (s : Spot) → Well ds vars x of_kind.Expressions s → gives (length vars) (map (λ e. expr_reading e vars) (items_of (as_array x))) ≡ true
+  expressions_sound : (x : Data) (s : Spot) → Well lists vars x of_kind.Expressions s → gives (length vars) (map (λ e. expr_reading e vars) (items_of (as_array x))) ≡ true
   expressions_sound x s w =
-      on_array (λ y. Well ds vars y of_kind.Expressions s → gives (length vars) (map (λ e. expr_reading e vars) (items_of (as_array y))) ≡ true)
+      on_array (λ y. Well lists vars y of_kind.Expressions s → gives (length vars) (map (λ e. expr_reading e vars) (items_of (as_array y))) ≡ true)
       (λ ps w. all_listed (expr_sound (length vars)) (λ e. expr_reading e vars) ps (λ n y is.
       expression_sound y (inside_part s of_kind.Expressions (array ps) n) (item_well ps of_kind.Expressions of_kind.Expression s (λ n. refl) w n y is)))
-      x (shape_here ds x of_kind.Expressions s w.kept) w
+      x (shape_here lists x of_kind.Expressions s w.kept) w
 
   -- ---- statements
 
@@ -318,41 +317,41 @@ module _ (ds : List Declared) (vars : Names) where
     abbrev test : List ℕ → StmtTree → Bool
     test areas s = is_in_range (length vars) s
 
-    module _ (ps : Items) (s : Spot) (w : Well ds vars (array ps) of_kind.Statement s)
-        (body : (n : ℕ) (x : Data) (t : Spot) (areas : List ℕ) → get_item n ps ≡ Some x → Well ds vars x of_kind.Statements t → each_of test areas ((block x).body context) ≡ true) where
+    module _ (ps : Items) (s : Spot) (w : Well lists vars (array ps) of_kind.Statement s)
+        (body : (n : ℕ) (x : Data) (t : Spot) (areas : List ℕ) → get_item n ps ≡ Some x → Well lists vars x of_kind.Statements t → each_of test areas ((block x).body context) ≡ true) where
       abbrev Is : Kind → Type 0
       Is other = resolved of_kind.Statement (array ps) ≡ other
 
       var_low : (other : Kind) (n : ℕ) → Is other → form_of other ≡ form.Row → ltb n (length (row_of other)) ≡ true → slice_index_or (row_of other) n of_kind.Anything ≡ of_kind.LocalName → takes (length vars) (var_part context n (array ps) ∷ []) ≡ true
       var_low other n is row low part_is =
           let p = row_well ps of_kind.Statement other s n is row low w in
-          and_from _ _ (ap (λ o. ltb (position_in vars (unwrap_or (option_and_then as_str o) [])) (length vars)) p.there ∙ local_low p.value p.spot (subst (λ k. Well ds vars p.value k p.spot) part_is p.well)) refl
+          and_from _ _ (ap (λ o. ltb (position_in vars (unwrap_or (option_and_then as_str o) [])) (length vars)) p.there ∙ local_low p.value p.spot (subst (λ k. Well lists vars p.value k p.spot) part_is p.well)) refl
 
       vars_low : (other : Kind) (n : ℕ) → Is other → form_of other ≡ form.Row → ltb n (length (row_of other)) ≡ true → slice_index_or (row_of other) n of_kind.Anything ≡ of_kind.LocalNames → takes (length vars) (vars_part context n (array ps)) ≡ true
       vars_low other n is row low part_is =
           let p = row_well ps of_kind.Statement other s n is row low w in
-          ap (λ o. takes (length vars) (map (λ v. position_in vars (text_in v)) (items_of (option_and_then as_array o)))) p.there ∙ locals_low p.value p.spot (subst (λ k. Well ds vars p.value k p.spot) part_is p.well)
+          ap (λ o. takes (length vars) (map (λ v. position_in vars (text_in v)) (items_of (option_and_then as_array o)))) p.there ∙ locals_low p.value p.spot (subst (λ k. Well lists vars p.value k p.spot) part_is p.well)
 
       exprs_low : (other : Kind) (n : ℕ) → Is other → form_of other ≡ form.Row → ltb n (length (row_of other)) ≡ true → slice_index_or (row_of other) n of_kind.Anything ≡ of_kind.Expressions → gives (length vars) (exprs_part context n (array ps)) ≡ true
       exprs_low other n is row low part_is =
           let p = row_well ps of_kind.Statement other s n is row low w in
-          ap (λ o. gives (length vars) (map (λ e. expr_reading e vars) (items_of (option_and_then as_array o)))) p.there ∙ expressions_sound p.value p.spot (subst (λ k. Well ds vars p.value k p.spot) part_is p.well)
+          ap (λ o. gives (length vars) (map (λ e. expr_reading e vars) (items_of (option_and_then as_array o)))) p.there ∙ expressions_sound p.value p.spot (subst (λ k. Well lists vars p.value k p.spot) part_is p.well)
 
       expr_low : (other : Kind) (n : ℕ) → Is other → form_of other ≡ form.Row → ltb n (length (row_of other)) ≡ true → slice_index_or (row_of other) n of_kind.Anything ≡ of_kind.Expression → expr_sound (length vars) (expr_part context n (array ps)) ≡ true
       expr_low other n is row low part_is =
           let p = row_well ps of_kind.Statement other s n is row low w in
-          ap (λ o. expr_sound (length vars) (expr_seen vars o)) p.there ∙ expression_sound p.value p.spot (subst (λ k. Well ds vars p.value k p.spot) part_is p.well)
+          ap (λ o. expr_sound (length vars) (expr_seen vars o)) p.there ∙ expression_sound p.value p.spot (subst (λ k. Well lists vars p.value k p.spot) part_is p.well)
 
       body_low : (other : Kind) (n : ℕ) (areas : List ℕ) → Is other → form_of other ≡ form.Row → ltb n (length (row_of other)) ≡ true → slice_index_or (row_of other) n of_kind.Anything ≡ of_kind.Statements
           → each_of test areas (body_part context (slice_get (blocks ps) n)) ≡ true
       body_low other n areas is row low part_is =
           let p = row_well ps of_kind.Statement other s n is row low w in
-          ap (λ o. each_of test areas (body_part context o)) (slice_blocks ps n p.value p.there) ∙ body n p.value p.spot areas p.there (subst (λ k. Well ds vars p.value k p.spot) part_is p.well)
+          ap (λ o. each_of test areas (body_part context o)) (slice_blocks ps n p.value p.there) ∙ body n p.value p.spot areas p.there (subst (λ k. Well lists vars p.value k p.spot) part_is p.well)
 
       times_low : Is of_kind.RepeatStatement → leb (times_part (array ps)) 1000 ≡ true
       times_low is =
           let p = row_well ps of_kind.Statement of_kind.RepeatStatement s 1 is refl refl w in
-          ap (λ o. leb (under (2 ^ 32) 0 (option_and_then as_u64 (option_and_then as_number o))) 1000) p.there ∙ few (option_and_then as_u64 (as_number p.value)) (shape_here ds p.value of_kind.RepeatCount p.spot p.well.kept)
+          ap (λ o. leb (under (2 ^ 32) 0 (option_and_then as_u64 (option_and_then as_number o))) 1000) p.there ∙ few (option_and_then as_u64 (as_number p.value)) (shape_here lists p.value of_kind.RepeatCount p.spot p.well.kept)
         where
           few : (o : Option ℕ) → holds (is_within 0 1000) o ≡ true → leb (under (2 ^ 32) 0 o) 1000 ≡ true
           few None h = absurd (false≢true h)
@@ -373,7 +372,7 @@ module _ (ds : List Declared) (vars : Names) where
       taking is = cons_low (var_part context 4 (array ps)) (vars_part context 3 (array ps)) (var_low of_kind.TakingStatement 4 is refl refl refl) (vars_low of_kind.TakingStatement 3 is refl refl refl)
 
       pub statement_sound : (areas : List ℕ) → each_in test areas ((block (array ps)).stmt context) ≡ true
-      statement_sound areas = by_choice (spoken (array ps) (choices_of of_kind.Statement) of_kind.UnknownStatement (never_nothing ds (array ps) of_kind.Statement s w.kept of_kind.UnknownStatement refl))
+      statement_sound areas = by_choice (spoken (array ps) (choices_of of_kind.Statement) of_kind.UnknownStatement (never_nothing lists (array ps) of_kind.Statement s w.kept of_kind.UnknownStatement refl))
         where
           by_choice : Spoken (array ps) (choices_of of_kind.Statement) (resolved of_kind.Statement (array ps)) → each_in test areas ((block (array ps)).stmt context) ≡ true
           by_choice f = by_case f.picked.one
@@ -383,7 +382,7 @@ module _ (ds : List Declared) (vars : Names) where
 
               by : (k : Choice) (word : Keyword) → f.picked.choice ≡ k → keyword_of k.word ≡ word → Sound word areas → each_in test areas ((block (array ps)).stmt context) ≡ true
               by k word e is h =
-                  let first : text_part 0 (array ps) ≡ k.word = ap (λ o. unwrap_or o []) f.there ∙ sym f.picked.word_is ∙ ap (λ (j : Choice). j.word) e in
+                  let first : text_of_part 0 (array ps) ≡ k.word = ap (λ o. unwrap_or o []) f.there ∙ sym f.picked.word_is ∙ ap (λ (j : Choice). j.word) e in
                   ap (λ t. each_in test areas (statement (keyword_of t) context (array ps) (blocks ps))) first
                   ∙ ap (λ q. each_in test areas (statement q context (array ps) (blocks ps))) is ∙ h
 
@@ -414,15 +413,15 @@ module _ (ds : List Declared) (vars : Names) where
               by_case (inr (inr (inr (inr (inr (inr (inr (inr (inr (inr (inr (inr (inr (inr (inr (inr (inr (inr (inr (inr (inr none))))))))))))))))))))) = absurd none
 
     mutual
-      stmt_sound : (x : Data) (s : Spot) (areas : List ℕ) → Well ds vars x of_kind.Statement s → each_in test areas ((block x).stmt context) ≡ true
-      stmt_sound null s areas w = absurd (never_nothing ds null of_kind.Statement s w.kept of_kind.UnknownStatement refl refl)
-      stmt_sound (boolean b) s areas w = absurd (never_nothing ds (boolean b) of_kind.Statement s w.kept of_kind.UnknownStatement refl refl)
-      stmt_sound (number n) s areas w = absurd (never_nothing ds (number n) of_kind.Statement s w.kept of_kind.UnknownStatement refl refl)
-      stmt_sound (string t) s areas w = absurd (never_nothing ds (string t) of_kind.Statement s w.kept of_kind.UnknownStatement refl refl)
+      stmt_sound : (x : Data) (s : Spot) (areas : List ℕ) → Well lists vars x of_kind.Statement s → each_in test areas ((block x).stmt context) ≡ true
+      stmt_sound null s areas w = absurd (never_nothing lists null of_kind.Statement s w.kept of_kind.UnknownStatement refl refl)
+      stmt_sound (boolean b) s areas w = absurd (never_nothing lists (boolean b) of_kind.Statement s w.kept of_kind.UnknownStatement refl refl)
+      stmt_sound (number n) s areas w = absurd (never_nothing lists (number n) of_kind.Statement s w.kept of_kind.UnknownStatement refl refl)
+      stmt_sound (string t) s areas w = absurd (never_nothing lists (string t) of_kind.Statement s w.kept of_kind.UnknownStatement refl refl)
       stmt_sound (array ps) s areas w = statement_sound ps s w (λ n x t ar is v. body_at ps n x t ar is v) areas
-      stmt_sound (object ms) s areas w = absurd (never_nothing ds (object ms) of_kind.Statement s w.kept of_kind.UnknownStatement refl refl)
+      stmt_sound (object ms) s areas w = absurd (never_nothing lists (object ms) of_kind.Statement s w.kept of_kind.UnknownStatement refl refl)
 
-      body_sound : (x : Data) (s : Spot) (areas : List ℕ) → Well ds vars x of_kind.Statements s → each_of test areas ((block x).body context) ≡ true
+      body_sound : (x : Data) (s : Spot) (areas : List ℕ) → Well lists vars x of_kind.Statements s → each_of test areas ((block x).body context) ≡ true
       body_sound null s areas w = refl
       body_sound (boolean b) s areas w = refl
       body_sound (number n) s areas w = refl
@@ -430,26 +429,26 @@ module _ (ds : List Declared) (vars : Names) where
       body_sound (array ps) s areas w = stmts_sound ps (λ n. inside_part s of_kind.Statements (array ps) n) areas (item_well ps of_kind.Statements of_kind.Statement s (λ n. refl) w)
       body_sound (object ms) s areas w = refl
 
-      body_at : (ps : Items) (n : ℕ) (x : Data) (s : Spot) (areas : List ℕ) → get_item n ps ≡ Some x → Well ds vars x of_kind.Statements s → each_of test areas ((block x).body context) ≡ true
+      body_at : (ps : Items) (n : ℕ) (x : Data) (s : Spot) (areas : List ℕ) → get_item n ps ≡ Some x → Well lists vars x of_kind.Statements s → each_of test areas ((block x).body context) ≡ true
       body_at no_items n x s areas is w = absurd (none-some x is)
       body_at (item p ps) zero x s areas is w =
-          subst (λ y. each_of test areas ((block y).body context) ≡ true) (same_Some p x is) (body_sound p s areas (subst (λ y. Well ds vars y of_kind.Statements s) (sym (same_Some p x is)) w))
+          subst (λ y. each_of test areas ((block y).body context) ≡ true) (same_Some p x is) (body_sound p s areas (subst (λ y. Well lists vars y of_kind.Statements s) (sym (same_Some p x is)) w))
       body_at (item p ps) (suc n) x s areas is w = body_at ps n x s areas is w
 
-      stmts_sound : (ps : Items) (spots : ℕ → Spot) (areas : List ℕ) → ((n : ℕ) (x : Data) → get_item n ps ≡ Some x → Well ds vars x of_kind.Statement (spots n)) → each_of test areas (in_order (map (λ b. b.stmt context) (blocks ps))) ≡ true
+      stmts_sound : (ps : Items) (spots : ℕ → Spot) (areas : List ℕ) → ((n : ℕ) (x : Data) → get_item n ps ≡ Some x → Well lists vars x of_kind.Statement (spots n)) → each_of test areas (in_order (map (λ b. b.stmt context) (blocks ps))) ≡ true
       stmts_sound no_items spots areas w = refl
       stmts_sound (item p ps) spots areas w = and_from _ _ (stmt_sound p (spots 0) areas (w 0 p refl)) (stmts_sound ps (λ n. spots (suc n)) areas (λ n x is. w (suc n) x is))
 
 -- the program of a runnable
-pub program_law : (ds : List Declared) (interfaces : InterfaceNames) (names : ComponentNames) (first : Names) (x : Data) (s : Spot) → Kept ds x of_kind.Runnable s
+pub program_law : (lists : Catalog) (interfaces : InterfaceNames) (names : ComponentNames) (first : Names) (x : Data) (s : Spot) → Kept lists x of_kind.Runnable s
     → is_well_formed (program_reading interfaces names first (unwrap_or (get (codes "program") x) null)) ≡ true
-program_law ds interfaces names first x s kept = from_value (optional_value ds x of_kind.Runnable s 4 (optional "program" of_kind.Statements) refl refl kept)
+program_law lists interfaces names first x s kept = from_value (optional_value lists x of_kind.Runnable s 4 (optional "program" of_kind.Statements) refl refl kept)
   where
-    from_value : (get (codes "program") x ≡ None) ⊎ Value ds x of_kind.Runnable s (optional "program" of_kind.Statements) → is_well_formed (program_reading interfaces names first (unwrap_or (get (codes "program") x) null)) ≡ true
+    from_value : (get (codes "program") x ≡ None) ⊎ Value lists x of_kind.Runnable s (optional "program" of_kind.Statements) → is_well_formed (program_reading interfaces names first (unwrap_or (get (codes "program") x) null)) ≡ true
     from_value (inl e) = ap (λ o. is_well_formed (program_reading interfaces names first (unwrap_or o null))) e
     from_value (inr v) =
         let vars = variables_of first v.value in
         let all = all_has [] (first ++ names_in v.value of_kind.Statements) in
         let named = (and_parts (list_all (has vars) first) (list_all (has vars) (names_in v.value of_kind.Statements)) (sym (list_all-append (has vars) first (names_in v.value of_kind.Statements)) ∙ all)).1 in
         ap (λ o. is_well_formed (program_reading interfaces names first (unwrap_or o null))) v.there
-        ∙ body_sound ds vars interfaces names v.value (inside s of_kind.Runnable x (codes "program")) [] (record { kept = v.kept; named = named })
+        ∙ body_sound lists vars interfaces names v.value (inside s of_kind.Runnable x (codes "program")) [] (record { kept = v.kept; named = named })

@@ -1,28 +1,26 @@
 -- The parts of arrays with a fixed number of them, and the words that tell their kinds.
-use Rattle.std.proofs.Common.{◌≡◌, ℕ, zero, suc, ◌<◌, List, [], ◌∷◌, length, Bool, true, false, cond, eqb, ltb, bytes_eq, Option, Some, None, refl, sym, ap, subst, arith, ◌∙◌, ◌⊎◌, inl, inr}
+use Rattle.std.proofs.Common.{◌≡◌, ℕ, ◌<◌, List, [], ◌∷◌, length, Bool, true, false, cond, eqb, ltb, bytes_eq, Option, Some, None, refl, sym, ap, subst, ◌∙◌, ◌⊎◌, inl, inr}
 use Rattle.std.specs.List.{find, slice_index_or}
 use Rattle.std.specs.Option.{option_and_then, unwrap_or}
 use Rattle.std.proofs.lemmas.Bool.{false≢true, eqb-true, ltb-true}
 use Rattle.std.proofs.lemmas.Slice.Eq.{bytes_eq-Decides}
-use Rattle.serde_json.specs.Data.{Data, null, boolean, number, string, array, object, Items, no_items, item}
+use Rattle.serde_json.specs.Data.{Data, null, boolean, number, string, array, object}
 use Rattle.serde_json.specs.Events.{items_len}
-use Rattle.serde_json.specs.Find.{as_str, at, get_item}
+use Rattle.serde_json.specs.Find.{as_str, at}
+use Rattle.declared_names.specs.Values.{text_in, text_of_part}
 use Rattle.description_places.specs.declared.form.Form.{Form}
 use Rattle.description_places.specs.declared.form.Form.TheVariants as form
 use Rattle.description_places.specs.declared.kind.Kind.{Kind}
 use Rattle.description_places.specs.declared.kind.Kind.TheVariants as of_kind
 use Rattle.description_places.specs.Alternatives.{Choice, first_word, kind_of, pick, pick_if, resolved}
-use Rattle.description_places.specs.Around.{text_part}
-use Rattle.description_places.specs.Declarations.{Declared}
+use Rattle.declared_names.specs.declared.catalogs.Catalog.{Catalog}
 use Rattle.description_places.specs.Forms.{form_of}
-use Rattle.description_places.specs.Names.{is_name, is_name_form}
 use Rattle.description_places.specs.Rows.{row_of}
 use Rattle.description_places.specs.Shape.{fits, holds, part_count}
 use Rattle.description_places.specs.Spots.{Spot, inside_part}
 use Rattle.description_places.specs.Visits.{part_of}
 use Rattle.description_stages.proofs.Kept.{Kept, kept_part, shape_here}
-use Rattle.description_stages.proofs.Lists.{IsIn}
-use Rattle.description_stages.proofs.Shorts.{name_value}
+use Rattle.description_stages.proofs.Lists.{IsIn, some_item}
 
 -- ---- the kind that a word picks
 
@@ -69,31 +67,26 @@ spoken x cs other known = by_word (first_word x) refl
         by_case (inr h) = absurd (known (ap (pick_if cs other) e ∙ h))
 
 -- a kind of no value is not found
-pub never_nothing : (ds : List Declared) (x : Data) (kind : Kind) (s : Spot) → Kept ds x kind s → (other : Kind) → form_of other ≡ form.Nothing → resolved kind x ≡ other → ⊥
-never_nothing ds x kind s kept other nothing e =
-    false≢true (subst (λ f. fits f other x ≡ true) nothing (subst (λ k. fits (form_of k) k x ≡ true) e (shape_here ds x kind s kept)))
+pub never_nothing : (lists : Catalog) (x : Data) (kind : Kind) (s : Spot) → Kept lists x kind s → (other : Kind) → form_of other ≡ form.Nothing → resolved kind x ≡ other → ⊥
+never_nothing lists x kind s kept other nothing e =
+    false≢true (subst (λ f. fits f other x ≡ true) nothing (subst (λ k. fits (form_of k) k x ≡ true) e (shape_here lists x kind s kept)))
 
 -- ---- parts of a row
 
-pub record PartAt (ds : List Declared) (x : Data) (kind part : Kind) (s : Spot) (n : ℕ) : Type 0 where
+pub record PartAt (lists : Catalog) (x : Data) (kind part : Kind) (s : Spot) (n : ℕ) : Type 0 where
   pub value : Data
   pub there : at n x ≡ Some value
-  pub kept : Kept ds value part (inside_part s (resolved kind x) x n)
-
-some_item : (ps : Items) (n : ℕ) → n < items_len ps → (x : Data) × (get_item n ps ≡ Some x)
-some_item no_items n h = absurd (omega arith)
-some_item (item d ps) zero h = (d, refl)
-some_item (item d ps) (suc n) h = some_item ps n (omega arith)
+  pub kept : Kept lists value part (inside_part s (resolved kind x) x n)
 
 row_form : (f : Form) (kind : Kind) (x : Data) → f ≡ form.Row → fits f kind x ≡ true → holds (λ n. eqb n (length (row_of kind))) (part_count x) ≡ true
 row_form f kind x e h = subst (λ f. fits f kind x ≡ true) e h
 
-pub row_part : (ds : List Declared) (x : Data) (kind : Kind) (s : Spot) (n : ℕ) → form_of (resolved kind x) ≡ form.Row → ltb n (length (row_of (resolved kind x))) ≡ true → Kept ds x kind s
-    → PartAt ds x kind (slice_index_or (row_of (resolved kind x)) n of_kind.Anything) s n
-row_part ds x kind s n is_row low kept = by_value x is_row low kept (row_form (form_of (resolved kind x)) (resolved kind x) x is_row (shape_here ds x kind s kept))
+pub row_part : (lists : Catalog) (x : Data) (kind : Kind) (s : Spot) (n : ℕ) → form_of (resolved kind x) ≡ form.Row → ltb n (length (row_of (resolved kind x))) ≡ true → Kept lists x kind s
+    → PartAt lists x kind (slice_index_or (row_of (resolved kind x)) n of_kind.Anything) s n
+row_part lists x kind s n is_row low kept = by_value x is_row low kept (row_form (form_of (resolved kind x)) (resolved kind x) x is_row (shape_here lists x kind s kept))
   where
-    by_value : (x : Data) → form_of (resolved kind x) ≡ form.Row → ltb n (length (row_of (resolved kind x))) ≡ true → Kept ds x kind s → holds (λ n. eqb n (length (row_of (resolved kind x)))) (part_count x) ≡ true
-        → PartAt ds x kind (slice_index_or (row_of (resolved kind x)) n of_kind.Anything) s n
+    by_value : (x : Data) → form_of (resolved kind x) ≡ form.Row → ltb n (length (row_of (resolved kind x))) ≡ true → Kept lists x kind s → holds (λ n. eqb n (length (row_of (resolved kind x)))) (part_count x) ≡ true
+        → PartAt lists x kind (slice_index_or (row_of (resolved kind x)) n of_kind.Anything) s n
     by_value null r l k h = absurd (false≢true h)
     by_value (boolean b) r l k h = absurd (false≢true h)
     by_value (number m) r l k h = absurd (false≢true h)
@@ -107,24 +100,9 @@ row_part ds x kind s n is_row low kept = by_value x is_row low kept (row_form (f
         record {
           value = v.0;
           there = v.1;
-          kept = subst (λ f. Kept ds v.0 (part_of f found n) (inside_part s found (array ps) n)) r (kept_part ds ps kind s n v.0 k v.1);
+          kept = subst (λ f. Kept lists v.0 (part_of f found n) (inside_part s found (array ps) n)) r (kept_part lists ps kind s n v.0 k v.1);
         }
 
--- a name that is a part
-pub record PartRefers (x : Data) (n : ℕ) (finds : List ℕ → Type 0) : Type 0 where
-  pub text : List ℕ
-  pub part : at n x ≡ Some (string text)
-  pub read : text_part n x ≡ text
-  pub fits_name : is_name text ≡ true
-  pub found : finds text
-
-pub part_refers : (ds : List Declared) (x : Data) (kind part : Kind) (s : Spot) (n : ℕ) (v : PartAt ds x kind part s n) → is_name_form (form_of (resolved part v.value)) ≡ true → (finds : Data → Type 0) → finds v.value → PartRefers x n (λ t. finds (string t))
-part_refers ds x kind part_kind s n v form finds found =
-    let name = name_value ds v.value part_kind (inside_part s (resolved kind x) x n) form v.kept in
-    record {
-      text = name.text;
-      part = v.there ∙ ap (λ y. Some y) name.is;
-      read = ap (λ o. unwrap_or (option_and_then as_str o) []) (v.there ∙ ap (λ y. Some y) name.is);
-      fits_name = name.fits_name;
-      found = subst finds name.is found;
-    }
+-- what is read of a part
+pub part_text : (lists : Catalog) (x : Data) (kind part : Kind) (s : Spot) (n : ℕ) (v : PartAt lists x kind part s n) → text_of_part n x ≡ text_in v.value
+part_text lists x kind part s n v = ap (λ o. unwrap_or (option_and_then as_str o) []) v.there

@@ -7,12 +7,11 @@ use Rattle.std.proofs.lemmas.Slice.Eq.{bytes_eq-Decides}
 use Rattle.std.proofs.lemmas.List.{length-append}
 use Rattle.serde_json.specs.Data.{Data, Items, no_items, item}
 use Rattle.serde_json.specs.Find.{get_item}
-use Rattle.description_places.specs.Around.{text_at}
 use Rattle.description_types.specs.declared.component.Event.{Event}
 use Rattle.description_types.specs.declared.component.EventKind.{EventKind}
 use Rattle.description_types.specs.declared.component.EventKind.TheVariants.{OperationInvoked}
 use Rattle.declared_names.specs.Names.{Names, position_in}
-use Rattle.declared_names.specs.Values.{listed}
+use Rattle.declared_names.specs.Values.{listed, text_at}
 use Rattle.program_reading.specs.Variables.{added, all_added}
 use Rattle.component_model.specs.Programs.{is_invoked, runnable_names}
 use Rattle.bus_semantics.specs.SoundPlan.{same_numbers}

@@ -3,11 +3,10 @@
 //! `join_description` reads a description, makes it flat and checks what is joined: rules 1 to 15. `plan_description` goes on
 //! to its plan and its mapping, by all rules.
 //!
-//! What a description keeps that has been read is `IsWellFormed` of `plan_definitions`: the laws of this crate, whole and field by field. They
-//! rest on the rules that a description which is read keeps: each of its values passes the rules of shape, names and references, and what it
-//! declares is declared once (`proofs/Kept.antt`). The key of a declaration leads to the list that has the name (`proofs/Hits.antt` to
-//! `proofs/InterfaceItems.antt`, which rest on `proofs/Reach.antt`: a value declares near its place alone), and so the position that is read of
-//! a name is one of the list.
+//! What a description keeps that has been read is `IsWellFormed` of `plan_definitions`: the law of this crate. It rests on the rules that such a
+//! description keeps: each of its values passes the rules of shape, names and references, and none that is declared stands at an earlier place
+//! of its list (`proofs/Kept.antt`). The rules and what is read look names up in the same lists, those of `declared_names`, so the position that
+//! is read of a name is one of its list.
 //!
 //! # Decisions
 //!
@@ -21,9 +20,6 @@ mod planning;
 mod soundness;
 
 pub use joining::{JoinedDescription, join_description};
-pub use laws::{
-    components_are_well_formed, compositions_are_well_formed, mappings_are_well_formed,
-    read_descriptions_are_well_formed, roots_are_well_formed, types_are_well_formed,
-};
+pub use laws::read_descriptions_are_well_formed;
 pub use planning::{PlannedDescription, plan_description};
 pub use soundness::plans_are_sound;

@@ -1,13 +1,14 @@
 -- The description of `soak N` breaks no rule.
-use Rattle.std.proofs.Common.{◌≡◌, ◌≤◌, ℕ, List, ◌++◌, inl, inr, ⊎_elim, Some, None, refl, sym, ap, subst, ◌∙◌, if◌then◌else◌}
+use Rattle.std.proofs.Common.{◌≡◌, ◌≤◌, ℕ, List, inl, inr, ⊎_elim, Some, None, refl, sym, ap, subst, ◌∙◌, if◌then◌else◌}
 use Rattle.std.specs.Option.{option_or}
 use Rattle.std.proofs.lemmas.Option.{none-some}
 use Rattle.rte_text.specs.declared.refusal.Refusal.{Refusal}
 use Rattle.rte_text.specs.declared.refusal.Refused.TheVariants.{Rule}
 use Rattle.description_types.specs.declared.description.Description.{Description}
-use Rattle.description_places.specs.Declarations.{first_repeated}
+use Rattle.declared_names.specs.Catalogs.{catalog_of}
+use Rattle.description_places.specs.Distinct.{breaks_distinct}
 use Rattle.description_places.specs.References.{breaks_references}
-use Rattle.description_places.specs.Rules.{Reads, breaks_names, breaks_shape, declarations_of, least_of, visits_of}
+use Rattle.description_places.specs.Rules.{Reads, breaks_names, breaks_shape, least_of, visits_of}
 use Rattle.description_places.specs.Rules as base
 use Rattle.description_places.specs.Visits.{first_broken}
 use Rattle.component_model.specs.Descriptions.{description_of, reading}
@@ -25,7 +26,7 @@ use Rattle.plan_definitions.specs.PlanRefusals.{IsOfLists, IsOfSize, IsRefusal, 
 use Rattle.description_stages.specs.Plans.{IsPlanRefusalOf}
 use Rattle.plan_laws.proofs.Sizes.{plan_counts}
 use Rattle.soak_maker.specs.Soak.{soak_value}
-use Rattle.soak_maker.proofs.Declared.{all_declared, pre, rest}
+use Rattle.soak_maker.proofs.Catalogs.{catalog_is, soak_catalog}
 use Rattle.soak_maker.proofs.Distinct.{distinct}
 use Rattle.soak_maker.proofs.Flat.{instances_are, joined, not_refused, soak_instances, soak_joins}
 use Rattle.soak_maker.proofs.Held.{IsSoaked, soaked_back}
@@ -42,12 +43,13 @@ use Rattle.plan_laws.proofs.Whole.{one_value}
 -- ---- rules 1 to 8
 
 module _ (n : ℕ) (few : n ≤ 64) where
-  refers : first_broken (breaks_references (declarations_of (soak_value n))) (visits_of (soak_value n)) ≡ None
-  refers = ap (λ ds. first_broken (breaks_references ds) (visits_of (soak_value n))) (all_declared n)
-      ∙ unbroken (breaks_references (pre n ++ rest n)) (visits_of (soak_value n)) (none_passes n (breaks_references (pre n ++ rest n)) (references n few))
+  refers : first_broken (breaks_references (catalog_of (soak_value n))) (visits_of (soak_value n)) ≡ None
+  refers = ap (λ c. first_broken (breaks_references c) (visits_of (soak_value n))) (catalog_is n)
+      ∙ unbroken (breaks_references (soak_catalog n)) (visits_of (soak_value n)) (none_passes n (breaks_references (soak_catalog n)) (references n few))
 
-  differs : first_repeated (declarations_of (soak_value n)) ≡ None
-  differs = ap first_repeated (all_declared n) ∙ distinct n few
+  differs : first_broken (breaks_distinct (catalog_of (soak_value n))) (visits_of (soak_value n)) ≡ None
+  differs = ap (λ c. first_broken (breaks_distinct c) (visits_of (soak_value n))) (catalog_is n)
+      ∙ unbroken (breaks_distinct (soak_catalog n)) (visits_of (soak_value n)) (none_passes n (breaks_distinct (soak_catalog n)) (distinct n few))
 
   pub keeps_base : base.refusal (soak_value n) ≡ None
   keeps_base = λ i. least_of 2 (unbroken breaks_shape (visits_of (soak_value n)) (none_passes n breaks_shape (shapes n few)) i)

@@ -11,7 +11,7 @@ mod Programs
 mod Mapped
 mod Sizes
 mod Shapes
-mod Declared
+mod Catalogs
 mod References
 mod Distinct
 mod Law

@@ -1,9 +1,8 @@
 -- Lists of as many things as a number says, one for each number below it.
 use Rattle.std.proofs.Common.{◌≡◌, ◌<◌, ◌≤◌, ◌+◌, ℕ, zero, suc, Bool, true, false, cond, ◌||◌, nat_eq, List, [], ◌∷◌, ◌++◌, map, filter, flat_map, length, take, slice_get, Option, Some, None, refl, sym, ap, ◌∙◌, subst, inl, inr, ◌⊎◌, ⊎_elim, true≢false, eqb-true, eq-eqb, ne_eqb, arith, zero-add, length-append, append_assoc}
-use Rattle.std.specs.List.{find, list_any, position_from, enumerate_from}
+use Rattle.std.specs.List.{list_any, position_from, enumerate_from}
 use Rattle.std.specs.Option.{option_or}
 use Rattle.std.proofs.lemmas.List.{map-append}
-use Rattle.std.proofs.lemmas.List.Folds.{find-append}
 use Rattle.serde_json.specs.Data.{Data}
 use Rattle.soak_maker.specs.Json.{each}
 use Rattle.description_types.specs.Members.{Among, AllApart}
@@ -186,22 +185,6 @@ module _ {X : Type 0} where
       let apart : nat_eq m i ≡ false = differ m i (inr (omega (arith, at))) in
       ap (λ b. cond b (x ∷ filter t xs) (filter t xs)) (all.0 ∙ apart) ∙ one_passes t (i + 1) m xs y all.1 j (omega (arith, at)) got
 
-  -- the one that is found, where each is known to pass just at m
-  pub find_one : (t : X → Bool) (i m : ℕ) (xs : List X) (y : X) → AllAt (λ k x. t x ≡ nat_eq m k) i xs → (j : ℕ) → m ≡ i + j → slice_get xs j ≡ Some y → find t xs ≡ Some y
-  find_one t i m [] y all j at got = absurd (cc)
-  find_one t i m (x ∷ xs) y all zero at got =
-      let yes : nat_eq m i ≡ true = eq-eqb m i (omega (arith, at)) in
-      ap (λ b. cond b (Some x) (find t xs)) (all.0 ∙ yes) ∙ got
-  find_one t i m (x ∷ xs) y all (suc j) at got =
-      let apart : nat_eq m i ≡ false = differ m i (inr (omega (arith, at))) in
-      ap (λ b. cond b (Some x) (find t xs)) (all.0 ∙ apart) ∙ find_one t (i + 1) m xs y all.1 j (omega (arith, at)) got
-
-  pub find_past : (t : X → Bool) (xs ys : List X) → find t xs ≡ None → find t (xs ++ ys) ≡ find t ys
-  find_past t xs ys e = find-append t xs ys ∙ ap (λ o. option_or o (find t ys)) e
-
-  pub find_here : (t : X → Bool) (xs ys : List X) (y : X) → find t xs ≡ Some y → find t (xs ++ ys) ≡ Some y
-  find_here t xs ys y e = find-append t xs ys ∙ ap (λ o. option_or o (find t ys)) e
-
   -- ---- what is among them
 
   among_left : (x : X) (xs ys : List X) → Among x xs → Among x (xs ++ ys)
@@ -272,10 +255,6 @@ module _ {X Y : Type 0} (f : ℕ × X → List Y) where
   flat_many k (suc n) a b e =
       flat_both k (many n a) (a n ∷ [])
       ∙ (λ i. flat_many k n a b (λ j h. e j (omega (arith, h))) i ++ flat_one (k + length (many n a)) (a n) (b n) (ap (λ m. f (k + m, a n)) (length-many n a) ∙ e n (omega arith)) i)
-
-  pub flat_none : (k : ℕ) (xs : List X) → AllAt (λ i x. f (i, x) ≡ []) k xs → flat_map f (enumerate_from k xs) ≡ []
-  flat_none k [] all = refl
-  flat_none k (x ∷ xs) all = (λ i. all.0 i ++ flat_none (k + 1) xs all.1 i)
 
   pub flat_three : (n : ℕ) (a b : ℕ → X) (c : X) (u v : ℕ → Y) (w : Y) → ((i : ℕ) → i < n → f (i, a i) ≡ u i ∷ []) → ((i : ℕ) → i < n → f (n + i, b i) ≡ v i ∷ []) → f (n + n, c) ≡ w ∷ []
       → flat_map f (enumerate_from 0 (three n a b c)) ≡ three n u v w

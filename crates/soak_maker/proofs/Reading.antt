@@ -26,7 +26,7 @@ use Rattle.soak_maker.proofs.Lists.{get_first, get_second, get_third, map_three,
 use Rattle.soak_maker.proofs.Names.{acc_position, c_position, p_position}
 use Rattle.soak_maker.proofs.Soaked.{acc_name, c_name, consumer_tree, in_task, inner, p_name, producer_tree, queue, server_tree, service, soak_composition, soak_mapping, soak_tasks, soak_tree, soak_types}
 
-listed_back : (ds : List Data) → listed (items_of ds) ≡ ds
+pub listed_back : (ds : List Data) → listed (items_of ds) ≡ ds
 listed_back [] = refl
 listed_back (d ∷ ds) = ap (λ es. d ∷ es) (listed_back ds)
 
@@ -54,10 +54,10 @@ components_are n = refl
 
 -- ---- tasks
 
-task_names : Names
+unfoldable pub task_names : Names
 task_names = name (codes "P") 0 ∷ name (codes "P") 1 ∷ name (codes "P") 2 ∷ name (codes "P") 3 ∷ name (codes "C") 0 ∷ name (codes "C") 1 ∷ name (codes "C") 2 ∷ name (codes "C") 3 ∷ codes "A" ∷ []
 
-tasks_named : (n : ℕ) → short_names (items_at (codes "tasks") (mapping n)) ≡ task_names
+pub tasks_named : (n : ℕ) → short_names (items_at (codes "tasks") (mapping n)) ≡ task_names
 unfolding task_names
 tasks_named n = refl
 
@@ -111,7 +111,7 @@ abbrev pub composition : ℕ → Data
 composition n = fields ((codes "shortName", string (codes "Top")) ∷ (codes "prototypes", prototypes n) ∷ (codes "connectors", connectors n) ∷ [])
 
 module _ (n : ℕ) where
-  of_prototypes : {X : Type 0} (g : Data → X) → map g (items_at (codes "prototypes") (composition n)) ≡ three n (λ i. g (producer i)) (λ i. g (consumer i)) (g server)
+  pub of_prototypes : {X : Type 0} (g : Data → X) → map g (items_at (codes "prototypes") (composition n)) ≡ three n (λ i. g (producer i)) (λ i. g (consumer i)) (g server)
   of_prototypes g = ap (map g) (listed_back ((each n producer ++ each n consumer) ++ server ∷ [])) ∙ map_three g n producer consumer server
 
   prototypes_are : map (prototype_reading soak_names) (items_at (codes "prototypes") (composition n)) ≡ (soak_composition n).prototypes

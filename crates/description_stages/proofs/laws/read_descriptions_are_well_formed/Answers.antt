@@ -9,4 +9,4 @@ returns c = λ bytes d short read. by.whole d (whole_of (record {
   names = c.unbroken_descriptions.ensures.names;
   distinct = c.unbroken_descriptions.ensures.distinct;
   references = c.unbroken_descriptions.ensures.references;
-}) bytes (description_of d) short read)
+}) bytes (description_of d) read)
