@@ -90,7 +90,9 @@ fn check_items(alloc: Global, d: &Description, f: &Flat) -> Result<(), Refused>
     ensures { Tells (item_refusal d.now f.now) result }
 {
     let search = Search::new(alloc, d, f)?;
-    check_among(alloc, &search, d, f)
+    let checked = check_among(alloc, &search, d, f);
+    drop(search);
+    checked
 }
 
 /// Whether what a description joins may be joined: the ports of each connector are compatible (12), the environment serves no

@@ -55,7 +55,10 @@ fn coherent_plan(
             let plan = whole_plan(alloc, source, callings, pieces)?;
             Ok(plan)
         }
-        Err(broken) => Err(broken),
+        Err(broken) => {
+            drop(pieces);
+            Err(broken)
+        }
     }
 }
 
@@ -72,9 +75,27 @@ fn sized(
     ensures plan { IfOk result (λ plan. seen plan ≡ plan_of source.now.d.now source.now.f.now) }
 {
     if are_too_large(&pieces) {
+        drop(pieces);
         return Err(size_refusal(alloc));
     }
     coherent_plan(alloc, source, callings, pieces)
+}
+
+/// The plan of a description with these calls.
+fn plan_by(
+    alloc: Global,
+    source: &Source<'_>,
+    callings: &Callings,
+    mapped: &[bool],
+) -> Result<BusPlan, Refused>
+    requires calls { callings.now ≡ all_callings source.now.d.now source.now.f.now }
+    requires mapping { mapped.now ≡ are_mapped source.now.d.now source.now.f.now }
+    requires types { types_fit source.now.d.now.types ≡ true }
+    ensures refusal { Tells (IsThen (IsOfSize source.now.d.now source.now.f.now) (IsOfLists source.now.d.now)) result }
+    ensures plan { IfOk result (λ plan. seen plan ≡ plan_of source.now.d.now source.now.f.now) }
+{
+    let pieces = pieces_of(alloc, source, callings, mapped)?;
+    sized(alloc, source, callings, pieces)
 }
 
 fn plan_over(alloc: Global, source: &Source<'_>, mapped: &[bool]) -> Result<BusPlan, Refused>
@@ -84,8 +105,9 @@ fn plan_over(alloc: Global, source: &Source<'_>, mapped: &[bool]) -> Result<BusP
     ensures plan { IfOk result (λ plan. seen plan ≡ plan_of source.now.d.now source.now.f.now) }
 {
     let callings = Callings::of(alloc, source.d, source.f)?;
-    let pieces = pieces_of(alloc, source, &callings, mapped)?;
-    sized(alloc, source, &callings, pieces)
+    let plan = plan_by(alloc, source, &callings, mapped);
+    drop(callings);
+    plan
 }
 
 fn sized_plan(alloc: Global, d: &Description, f: &Flat, mapped: &[bool]) -> Result<BusPlan, Refused>
@@ -96,7 +118,9 @@ fn sized_plan(alloc: Global, d: &Description, f: &Flat, mapped: &[bool]) -> Resu
     ensures plan { IfOk result (λ plan. seen plan ≡ plan_of d.now f.now) }
 {
     let source = Source::new(alloc, d, f)?;
-    plan_over(alloc, &source, mapped)
+    let plan = plan_over(alloc, &source, mapped);
+    drop(source);
+    plan
 }
 
 fn listed(
@@ -139,6 +163,7 @@ fn planned(
 {
     let foretold = is_foretold(alloc, d, f)?;
     if foretold {
+        drop(kept);
         return Err(size_refusal(alloc));
     }
     listed(alloc, d, f, kept)

@@ -46,7 +46,11 @@ pub fn read_script(alloc: Global, p: &BusPlan, bytes: &[u8]) -> ScriptRead
     ensures bad_line { IfBadLine result (λ line cause. first_bad (saying (plan_of p.now)) [] (lines_of bytes.now) ≡ Some (line, cause)) }
 {
     match Environment::of(alloc, p) {
-        Ok(environment) => read_by(alloc, &environment, bytes),
+        Ok(environment) => {
+            let read = read_by(alloc, &environment, bytes);
+            drop(environment);
+            read
+        }
         Err(_) => ScriptRead::Memory,
     }
 }
@@ -65,7 +69,9 @@ pub fn read_script_around(alloc: Global, p: &BusPlan, reserved: &[bool], bytes: 
                 environment: &environment,
                 reserved,
             };
-            read_by(alloc, &grammar, bytes)
+            let read = read_by(alloc, &grammar, bytes);
+            drop(environment);
+            read
         }
         Err(_) => ScriptRead::Memory,
     }

@@ -11,9 +11,9 @@ of-requires c = numbered (plan_of c.args.p.now) c.requires.sound.0 c.requires.so
 
 pub returns-in-Ok-clause-read : goal.returns-in-Ok-clause-read
 returns-in-Ok-clause-read c =
-    subst (λ p. IfRead c.read_by.result (λ lines. IsScript (plan_of p) c.args.bytes.now lines)) c.in-Ok.ensures c.read_by.ensures.read
+    subst (λ p. IfRead c.read_by-read.result (λ lines. IsScript (plan_of p) c.args.bytes.now lines)) c.in-Ok.ensures c.read_by-read.ensures.read
 
 pub returns-in-Ok-clause-bad_line : goal.returns-in-Ok-clause-bad_line
 returns-in-Ok-clause-bad_line c =
-    subst (λ p. IfBadLine c.read_by.result (λ line cause. first_bad (saying (plan_of p)) [] (lines_of c.args.bytes.now) ≡ Some (line, cause))) c.in-Ok.ensures
-    c.read_by.ensures.bad_line
+    subst (λ p. IfBadLine c.read_by-read.result (λ line cause. first_bad (saying (plan_of p)) [] (lines_of c.args.bytes.now) ≡ Some (line, cause))) c.in-Ok.ensures
+    c.read_by-read.ensures.bad_line
