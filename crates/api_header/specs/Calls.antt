@@ -1,6 +1,6 @@
 -- What the code lists, as definitions see it.
 use Rattle.std.specs.Prelude.{List, [], ◌∷◌, map}
-use Rattle.interface_types.specs.declared.interface.TypeTable.{TypeTable}
+use Rattle.description_types.specs.declared.interface.TypeTable.{TypeTable}
 use Rattle.description_types.specs.declared.component.Access.{Access}
 use Rattle.description_types.specs.declared.component.Component.{Component}
 use Rattle.description_types.specs.declared.component.Runnable.{Runnable}

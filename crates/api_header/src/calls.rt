@@ -8,8 +8,7 @@ ghost use Rattle.api_header.specs.Targets.{area_name, at_item, item_name_at, nam
 ghost use Rattle.plan_definitions.specs.Ports.{item_name};
 ghost use Rattle.plan_definitions.specs.Signatures.{kind_at};
 
-use description_types::{Access, Component, Runnable};
-use interface_types::{InterfaceKind, TypeTable};
+use description_types::{Access, Component, InterfaceKind, Runnable, TypeTable};
 use rte_text::Memory;
 use runnable_lang::AccessKind;
 use std::alloc::Global;

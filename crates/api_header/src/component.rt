@@ -10,9 +10,8 @@ ghost use Rattle.api_header.specs.Targets.{name_of};
 use crate::calls::{Call, given};
 use crate::listing::{Calls, list};
 use crate::text::{header_text, name_of};
-use description_types::{Component, Description};
+use description_types::{Component, Description, TypeTable};
 use indexmap::IndexMap;
-use interface_types::TypeTable;
 use rte_text::Text;
 use std::alloc::Global;
 

@@ -2,7 +2,7 @@
 use Rattle.std.proofs.Common.{◌≡◌, ℕ, ◌+◌, ◌<◌, List, [], ◌∷◌, ◌++◌, map, drop, length, get_or, refl, ◌∙◌}
 use Rattle.std.proofs.lemmas.List.{at_drop_more}
 use Rattle.std.specs.Option.{option_or}
-use Rattle.interface_types.specs.Lists.{from, first}
+use Rattle.description_types.specs.Lists.{from, first}
 
 pub first_joined : {Y : Type 0} (xs ys : List Y) → first (xs ++ ys) ≡ option_or (first xs) (first ys)
 first_joined [] ys = refl

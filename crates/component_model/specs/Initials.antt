@@ -1,9 +1,9 @@
 -- Rule 8: initial values.
 use Rattle.std.specs.Prelude.{ℕ, List, ◌++◌, codes}
 use Rattle.std.specs.Fmt.{decimal}
-use Rattle.interface_types.specs.declared.interface.TypeTable.{TypeTable}
-use Rattle.interface_types.specs.Initials.{keeps, keeps_element}
-use Rattle.interface_types.specs.Lists.{from, unless}
+use Rattle.description_types.specs.declared.interface.TypeTable.{TypeTable}
+use Rattle.description_types.specs.Initials.{keeps, keeps_element}
+use Rattle.description_types.specs.Lists.{from, unless}
 use Rattle.description_types.specs.declared.component.Port.{Port}
 use Rattle.description_types.specs.declared.component.Variable.{Variable}
 use Rattle.description_types.specs.declared.description.Composition.{Composition}

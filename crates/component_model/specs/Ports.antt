@@ -2,7 +2,7 @@
 use Rattle.std.specs.Prelude.{ℕ, ℤ, ◌^◌, List, map, bytes_eq, codes, if◌then◌else◌, Option, option_map}
 use Rattle.serde_json.specs.Data.{Data}
 use Rattle.serde_json.specs.Find.{get}
-use Rattle.interface_types.specs.declared.interface.ComSpec.{ComSpec}
+use Rattle.description_types.specs.declared.interface.ComSpec.{ComSpec}
 use Rattle.description_types.specs.declared.component.Port.{Port}
 use Rattle.description_types.specs.declared.component.PortKind.{PortKind}
 use Rattle.description_types.specs.declared.component.PortKind.TheVariants.{Provided, Required}

@@ -6,8 +6,8 @@ use Rattle.rte_text.specs.declared.refusal.Refused.{Refused}
 use Rattle.rte_text.specs.declared.refusal.Refused.TheVariants.{Rule, Memory}
 use Rattle.description_places.specs.Rules as base
 use Rattle.description_places.specs.Rules.{IsUnreadable, Reads}
-use Rattle.interface_types.specs.Lists.{first}
-use Rattle.interface_types.specs.Refusals.{of_rule, type_refusal}
+use Rattle.description_types.specs.Lists.{first}
+use Rattle.description_types.specs.Refusals.{of_rule, type_refusal}
 use Rattle.component_model.specs.Descriptions.{DescriptionTree, reading}
 use Rattle.component_model.specs.Initials.{broken_initials, initial_place}
 

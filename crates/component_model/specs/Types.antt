@@ -1,23 +1,23 @@
 -- What the types of a description are read as.
 use Rattle.std.specs.Prelude.{ℕ, ◌^◌, List, map, bytes_eq, codes, if◌then◌else◌}
 use Rattle.serde_json.specs.Data.{Data}
-use Rattle.interface_types.specs.declared.base_type.BaseType.{BaseType}
-use Rattle.interface_types.specs.declared.base_type.BaseType.TheVariants as base
-use Rattle.interface_types.specs.declared.base_type.DataType.{DataType}
-use Rattle.interface_types.specs.declared.interface.ApplicationError.{ApplicationError}
-use Rattle.interface_types.specs.declared.interface.Argument.{Argument}
-use Rattle.interface_types.specs.declared.interface.DataElement.{DataElement}
-use Rattle.interface_types.specs.declared.interface.Direction.{Direction}
-use Rattle.interface_types.specs.declared.interface.Direction.TheVariants.{In, Out}
-use Rattle.interface_types.specs.declared.interface.Interface.{Interface}
-use Rattle.interface_types.specs.declared.interface.InterfaceKind.{InterfaceKind}
-use Rattle.interface_types.specs.declared.interface.InterfaceKind.TheVariants.{SenderReceiver, ClientServer, ModeSwitch}
-use Rattle.interface_types.specs.declared.interface.ModeElement.{ModeElement}
-use Rattle.interface_types.specs.declared.interface.ModeGroup.{ModeGroup}
-use Rattle.interface_types.specs.declared.interface.Operation.{Operation}
-use Rattle.interface_types.specs.declared.interface.SwImplPolicy.{SwImplPolicy}
-use Rattle.interface_types.specs.declared.interface.SwImplPolicy.TheVariants.{Standard, Queued}
-use Rattle.interface_types.specs.declared.interface.TypeTable.{TypeTable}
+use Rattle.description_types.specs.declared.base_type.BaseType.{BaseType}
+use Rattle.description_types.specs.declared.base_type.BaseType.TheVariants as base
+use Rattle.description_types.specs.declared.base_type.DataType.{DataType}
+use Rattle.description_types.specs.declared.interface.ApplicationError.{ApplicationError}
+use Rattle.description_types.specs.declared.interface.Argument.{Argument}
+use Rattle.description_types.specs.declared.interface.DataElement.{DataElement}
+use Rattle.description_types.specs.declared.interface.Direction.{Direction}
+use Rattle.description_types.specs.declared.interface.Direction.TheVariants.{In, Out}
+use Rattle.description_types.specs.declared.interface.Interface.{Interface}
+use Rattle.description_types.specs.declared.interface.InterfaceKind.{InterfaceKind}
+use Rattle.description_types.specs.declared.interface.InterfaceKind.TheVariants.{SenderReceiver, ClientServer, ModeSwitch}
+use Rattle.description_types.specs.declared.interface.ModeElement.{ModeElement}
+use Rattle.description_types.specs.declared.interface.ModeGroup.{ModeGroup}
+use Rattle.description_types.specs.declared.interface.Operation.{Operation}
+use Rattle.description_types.specs.declared.interface.SwImplPolicy.{SwImplPolicy}
+use Rattle.description_types.specs.declared.interface.SwImplPolicy.TheVariants.{Standard, Queued}
+use Rattle.description_types.specs.declared.interface.TypeTable.{TypeTable}
 use Rattle.declared_names.specs.declared.scopes.TypeNames.{TypeNames}
 use Rattle.declared_names.specs.Names.{position_in, texts}
 use Rattle.declared_names.specs.Values.{items_at, number_at, text_at, text_at_in, word_at}

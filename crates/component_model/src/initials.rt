@@ -3,14 +3,16 @@
 ghost use Rattle.std.specs.Prelude.{◌≡◌, ◌++◌, IfOk, codes, map, string_bytes};
 ghost use Rattle.std.specs.Fmt.{decimal};
 ghost use Rattle.std.specs.List.{list_all};
-ghost use Rattle.interface_types.specs.Lists.{first, from};
+ghost use Rattle.description_types.specs.Lists.{first, from};
 ghost use Rattle.component_model.specs.Descriptions.{description_of};
-ghost use Rattle.interface_types.specs.Initials.{element_type, fits, is_within, keeps, keeps_element, type_in};
+ghost use Rattle.description_types.specs.Initials.{element_type, fits, is_within, keeps, keeps_element, type_in};
 ghost use Rattle.component_model.specs.Initials.{broken_initials, broken_of_component, broken_of_composition, broken_of_port, broken_of_ports, broken_of_variables, initial_place, owner_place};
 ghost use Rattle.component_model.specs.Programs.{component_tree};
 
-use description_types::{Component, Composition, Description, Port, Variable};
-use interface_types::{ComSpec, DataType, InterfaceKind, TypeTable};
+use description_types::{
+    ComSpec, Component, Composition, DataType, Description, InterfaceKind, Port, TypeTable,
+    Variable,
+};
 use itoa::Buffer;
 use rte_text::{Memory, Seq, Text};
 use rte_value::{Limits, Word};

@@ -10,8 +10,7 @@ use declared_names::{
     InterfaceNames, Positions, copy_at, find_at, flag_at, items_at, items_in, number_at, text_at,
     word_in,
 };
-use description_types::{Port, PortKind};
-use interface_types::ComSpec;
+use description_types::{ComSpec, Port, PortKind};
 use rte_text::{Memory, Seq};
 use rte_value::Word;
 use serde_json::Value;

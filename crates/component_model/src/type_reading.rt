@@ -11,7 +11,7 @@ use declared_names::{
     TypeNames, copy_at, declared_texts, items_at, small_number_at, text_at, text_at_in, text_in,
     word_at,
 };
-use interface_types::{
+use description_types::{
     ApplicationError, Argument, BaseType, DataElement, DataType, Direction, Interface,
     InterfaceKind, ModeElement, ModeGroup, Operation, SwImplPolicy, TypeTable,
 };

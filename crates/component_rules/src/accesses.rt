@@ -4,8 +4,7 @@ ghost use Rattle.std.specs.Prelude.{◌≡◌};
 ghost use Rattle.plan_definitions.specs.Accesses.{names_port, fits, access_fits, misfit_among, misfit};
 
 use crate::items::item_at;
-use description_types::{Access, Component, Port, PortKind};
-use interface_types::{SwImplPolicy, TypeTable};
+use description_types::{Access, Component, Port, PortKind, SwImplPolicy, TypeTable};
 use plan_definitions::{Item, Spot};
 use runnable_lang::AccessKind;
 

@@ -7,8 +7,7 @@ ghost use Rattle.plan_definitions.specs.Coherent.{item_of, read_by, written_by, 
 
 use crate::items::words_at;
 use crate::tally::Tally;
-use description_types::{Access, Component, ItemPair, Runnable};
-use interface_types::TypeTable;
+use description_types::{Access, Component, ItemPair, Runnable, TypeTable};
 use plan_definitions::Spot;
 use rte_text::{Memory, Seq};
 use runnable_lang::AccessKind;

@@ -5,8 +5,9 @@ ghost use Rattle.std.specs.List.{list_all};
 ghost use Rattle.plan_definitions.specs.Events.{requires_data, provides_operation, requires_operation, provides_modes, required_modes, has_moment, kind_fits, misplaced, may_be_disabled, has_modes, disabling_fits, wrongly_disabled};
 
 use crate::items::item_at;
-use description_types::{Component, DisabledInModes, EventKind, ModeActivation, Port, PortKind};
-use interface_types::TypeTable;
+use description_types::{
+    Component, DisabledInModes, EventKind, ModeActivation, Port, PortKind, TypeTable,
+};
 use plan_definitions::{Item, Spot};
 
 fn requires_data(found: Option<(PortKind, Item)>) -> bool

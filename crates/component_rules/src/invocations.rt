@@ -7,8 +7,7 @@ ghost use Rattle.plan_definitions.specs.Counts.{count, same_operation};
 ghost use Rattle.plan_definitions.specs.Invocations.{operation_of, invoked, operation_count, operations_at, is_served, started, is_alone, unserved, shared, wrongly_served};
 
 use crate::tally::Tally;
-use description_types::{Component, Event, EventKind, Port, PortKind};
-use interface_types::{InterfaceKind, TypeTable};
+use description_types::{Component, Event, EventKind, InterfaceKind, Port, PortKind, TypeTable};
 use plan_definitions::Spot;
 use rte_text::Memory;
 use std::alloc::Global;

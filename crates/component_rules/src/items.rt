@@ -5,8 +5,9 @@ ghost use Rattle.plan_definitions.specs.Coherent.{words_of_type, words_in, words
 ghost use Rattle.plan_definitions.specs.Items.{item_of, item_of_port, item_at};
 ghost use Rattle.plan_definitions.specs.Signatures.{kind_at};
 
-use description_types::{Component, ItemPair, Port, PortKind};
-use interface_types::{InterfaceKind, SwImplPolicy, TypeTable};
+use description_types::{
+    Component, InterfaceKind, ItemPair, Port, PortKind, SwImplPolicy, TypeTable,
+};
 use plan_definitions::Item;
 
 fn item_of(types: &TypeTable, kind: &InterfaceKind, item: u32) -> Option<Item>

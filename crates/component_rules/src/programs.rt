@@ -5,8 +5,7 @@ ghost use Rattle.plan_definitions.specs.Programs.{program_refusal, is_wanted, pa
 ghost use Rattle.plan_definitions.specs.WellFormed.{types_fit};
 
 use crate::signatures::signature_of;
-use description_types::{Component, Description, Runnable};
-use interface_types::TypeTable;
+use description_types::{Component, Description, Runnable, TypeTable};
 use rte_text::{Memory, Seq};
 use runnable_lang::{ProgramRefused, check_program};
 use std::alloc::{AllocError, Global};

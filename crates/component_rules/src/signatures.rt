@@ -5,8 +5,9 @@ ghost use Rattle.plan_definitions.specs.Signatures.{limits_of, words_of, goes, a
 ghost use Rattle.plan_definitions.specs.WellFormed.{types_fit};
 
 use crate::items::{item_at, kind_at};
-use description_types::{Access, Component};
-use interface_types::{Argument, DataType, Direction, InterfaceKind, TypeTable};
+use description_types::{
+    Access, Argument, Component, DataType, Direction, InterfaceKind, TypeTable,
+};
 use plan_definitions::Item;
 use rte_text::{Memory, Seq};
 use rte_value::Limits;

@@ -25,7 +25,7 @@ use Rattle.description_places.specs.Owners.{component_of}
 use Rattle.description_places.specs.References.{port_has}
 use Rattle.description_places.specs.Shape.{holds, part_count}
 use Rattle.description_places.specs.Spots.{Spot, Level, top, inside, inside_part}
-use Rattle.interface_types.specs.declared.interface.TypeTable.{TypeTable}
+use Rattle.description_types.specs.declared.interface.TypeTable.{TypeTable}
 use Rattle.description_types.specs.declared.component.Access.{Access}
 use Rattle.description_types.specs.declared.component.Port.{Port}
 use Rattle.declared_names.specs.declared.in_component.ComponentNames.{ComponentNames}

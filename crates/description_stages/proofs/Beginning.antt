@@ -13,8 +13,8 @@ use Rattle.description_places.specs.Rules as base
 use Rattle.description_places.specs.Rules.{breaks_names, breaks_shape, visits_of}
 use Rattle.description_places.specs.Spots.{top}
 use Rattle.description_places.specs.Visits.{Visit}
-use Rattle.interface_types.specs.Refusals.{of_rule, type_refusal}
-use Rattle.interface_types.specs.Lists.{first}
+use Rattle.description_types.specs.Refusals.{of_rule, type_refusal}
+use Rattle.description_types.specs.Lists.{first}
 use Rattle.component_model.specs.Descriptions.{DescriptionTree, reading}
 use Rattle.component_model.specs.Initials.{broken_initials, initial_place}
 use Rattle.component_model.specs.Refusals.{IsRead, typed_refusal}

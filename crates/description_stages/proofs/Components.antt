@@ -22,9 +22,9 @@ use Rattle.declared_names.specs.declared.catalogs.ComponentLists.{ComponentLists
 use Rattle.description_places.specs.Keys.{needed, optional}
 use Rattle.description_places.specs.Names.{is_name}
 use Rattle.description_places.specs.Spots.{Spot, top, inside, inside_part}
-use Rattle.interface_types.specs.declared.interface.Interface.{Interface}
-use Rattle.interface_types.specs.declared.interface.TypeTable.{TypeTable}
-use Rattle.interface_types.specs.Refusals.{is_sound, operations_in}
+use Rattle.description_types.specs.declared.interface.Interface.{Interface}
+use Rattle.description_types.specs.declared.interface.TypeTable.{TypeTable}
+use Rattle.description_types.specs.Refusals.{is_sound, operations_in}
 use Rattle.description_types.specs.declared.component.Component.{Component}
 use Rattle.description_types.specs.declared.component.DisabledInModes.{DisabledInModes}
 use Rattle.description_types.specs.declared.component.Event.{Event}
@@ -40,7 +40,7 @@ use Rattle.declared_names.specs.Names.{position_in, texts}
 use Rattle.declared_names.specs.Scopes.{interface_names, scope_of, type_names}
 use Rattle.declared_names.specs.Values.{items_at, listed, text_at, text_in}
 use Rattle.component_model.specs.Components.{access_reading, event_reading, variable_reading}
-use Rattle.interface_types.specs.Initials.{keeps}
+use Rattle.description_types.specs.Initials.{keeps}
 use Rattle.component_model.specs.Ports.{port_reading}
 use Rattle.component_model.specs.Programs.{behavior_in, behavior_reading, component_reading, component_tree, ComponentTree, first_names, invoked_events, runnable_names, runnable_reading, runnable_tree, RunnableTree}
 use Rattle.component_model.specs.Types.{types_reading}

@@ -14,7 +14,7 @@ use Rattle.declared_names.specs.declared.catalogs.CompositionLists.{CompositionL
 use Rattle.description_places.specs.Keys.{needed, optional}
 use Rattle.description_places.specs.Shape.{holds}
 use Rattle.description_places.specs.Spots.{Spot, top, inside, inside_part}
-use Rattle.interface_types.specs.declared.interface.TypeTable.{TypeTable}
+use Rattle.description_types.specs.declared.interface.TypeTable.{TypeTable}
 use Rattle.description_types.specs.declared.description.Composition.{Composition}
 use Rattle.description_types.specs.declared.description.Prototype.{Prototype}
 use Rattle.description_types.specs.declared.description.PrototypeType.{PrototypeType}

@@ -18,9 +18,9 @@ use Rattle.description_places.specs.Forms.{form_of}
 use Rattle.description_places.specs.Keys.{keys_of, needed, optional}
 use Rattle.description_places.specs.Shape.{holds, is_within}
 use Rattle.description_places.specs.Spots.{Spot, top, inside, inside_part}
-use Rattle.interface_types.specs.declared.interface.Interface.{Interface}
-use Rattle.interface_types.specs.declared.interface.InterfaceKind.TheVariants.{SenderReceiver, ClientServer, ModeSwitch}
-use Rattle.interface_types.specs.declared.interface.TypeTable.{TypeTable}
+use Rattle.description_types.specs.declared.interface.Interface.{Interface}
+use Rattle.description_types.specs.declared.interface.InterfaceKind.TheVariants.{SenderReceiver, ClientServer, ModeSwitch}
+use Rattle.description_types.specs.declared.interface.TypeTable.{TypeTable}
 use Rattle.description_types.specs.declared.component.Port.{Port}
 use Rattle.declared_names.specs.declared.scopes.InterfaceNames.{InterfaceNames}
 use Rattle.declared_names.specs.declared.scopes.TypeNames.{TypeNames}
@@ -28,7 +28,7 @@ use Rattle.declared_names.specs.Components.{interface_of_port}
 use Rattle.declared_names.specs.Names.{has_among, has_at, has_name, position_among, position_at, position_in, short_names}
 use Rattle.declared_names.specs.Scopes.{interface_names, item_names, type_names}
 use Rattle.declared_names.specs.Values.{below as under, items_at, listed, number_at, text_at, text_at_in}
-use Rattle.interface_types.specs.Initials.{keeps_element}
+use Rattle.description_types.specs.Initials.{keeps_element}
 use Rattle.component_model.specs.Ports.{com_spec_reading, port_reading}
 use Rattle.component_model.specs.Types.{data_element_reading, interface_reading, mode_element_reading, operation_reading, types_reading}
 use Rattle.bus_semantics.specs.SoundPlan.{is_in}

@@ -17,11 +17,11 @@ use Rattle.declared_names.specs.Catalogs.{catalog_of, firsts_in, operation_first
 use Rattle.declared_names.specs.FirstPlaces.{first_places}
 use Rattle.description_places.specs.Keys.{needed, optional}
 use Rattle.description_places.specs.Spots.{Spot, top, inside, inside_part}
-use Rattle.interface_types.specs.declared.base_type.DataType.{DataType}
-use Rattle.interface_types.specs.declared.interface.Interface.{Interface}
-use Rattle.interface_types.specs.declared.interface.Operation.{Operation}
-use Rattle.interface_types.specs.declared.interface.TypeTable.{TypeTable}
-use Rattle.interface_types.specs.Refusals.{has_distinct_codes, is_sound, is_sound_argument, one_word, operations_in}
+use Rattle.description_types.specs.declared.base_type.DataType.{DataType}
+use Rattle.description_types.specs.declared.interface.Interface.{Interface}
+use Rattle.description_types.specs.declared.interface.Operation.{Operation}
+use Rattle.description_types.specs.declared.interface.TypeTable.{TypeTable}
+use Rattle.description_types.specs.Refusals.{has_distinct_codes, is_sound, is_sound_argument, one_word, operations_in}
 use Rattle.description_types.specs.declared.component.Port.{Port}
 use Rattle.declared_names.specs.declared.in_component.ComponentNames.{ComponentNames}
 use Rattle.declared_names.specs.declared.scopes.InterfaceNames.{InterfaceNames}

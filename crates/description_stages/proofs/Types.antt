@@ -18,14 +18,14 @@ use Rattle.description_places.specs.Keys.{needed, optional}
 use Rattle.description_places.specs.Names.{is_name}
 use Rattle.description_places.specs.Shape.{holds, is_within, part_count}
 use Rattle.description_places.specs.Spots.{Spot, top, inside, inside_part}
-use Rattle.interface_types.specs.declared.base_type.DataType.{DataType}
-use Rattle.interface_types.specs.declared.interface.ApplicationError.{ApplicationError}
-use Rattle.interface_types.specs.declared.interface.DataElement.{DataElement}
-use Rattle.interface_types.specs.declared.interface.Interface.{Interface}
-use Rattle.interface_types.specs.declared.interface.Operation.{Operation}
-use Rattle.interface_types.specs.declared.interface.TypeTable.{TypeTable}
-use Rattle.interface_types.specs.Ranges.{keeps_range}
-use Rattle.interface_types.specs.Refusals.{is_sound, operations_in, type_refusal}
+use Rattle.description_types.specs.declared.base_type.DataType.{DataType}
+use Rattle.description_types.specs.declared.interface.ApplicationError.{ApplicationError}
+use Rattle.description_types.specs.declared.interface.DataElement.{DataElement}
+use Rattle.description_types.specs.declared.interface.Interface.{Interface}
+use Rattle.description_types.specs.declared.interface.Operation.{Operation}
+use Rattle.description_types.specs.declared.interface.TypeTable.{TypeTable}
+use Rattle.description_types.specs.Ranges.{keeps_range}
+use Rattle.description_types.specs.Refusals.{is_sound, operations_in, type_refusal}
 use Rattle.declared_names.specs.Names.{has_name, position_in, short_names, texts}
 use Rattle.declared_names.specs.Scopes.{item_names, type_names}
 use Rattle.declared_names.specs.Values.{items_at, listed, number_at, text_at, text_at_in, text_in}

@@ -9,7 +9,7 @@ use Rattle.description_types.specs.declared.description.Connector.TheVariants.{A
 use Rattle.description_types.specs.declared.description.Description.{Description}
 use Rattle.description_types.specs.declared.description.InnerPort.{InnerPort}
 use Rattle.description_types.specs.declared.description.PrototypeType.TheVariants.{Composition}
-use Rattle.interface_types.specs.declared.interface.InterfaceKind.{InterfaceKind}
+use Rattle.description_types.specs.declared.interface.InterfaceKind.{InterfaceKind}
 use Rattle.description_types.specs.declared.flat.Join.{Join}
 use Rattle.description_types.specs.Connectors.{connectors_of, interface_of, kind_of, lets_join}
 use Rattle.description_types.specs.Places.{places}

@@ -9,3 +9,7 @@ pub mod Members
 pub mod Orders
 pub mod Paths
 pub mod Places
+pub mod Ranges
+pub mod Lists
+pub mod Refusals
+pub mod Initials

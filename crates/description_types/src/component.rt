@@ -1,6 +1,6 @@
 //! Components: ports and internal behaviour.
 
-use interface_types::ComSpec;
+use crate::interface::ComSpec;
 use rte_text::{Seq, Text};
 use rte_value::Word;
 use runnable_lang::{AccessKind, Program};

@@ -1,7 +1,7 @@
 //! The typed description.
 
 use crate::component::{Component, Port};
-use interface_types::TypeTable;
+use crate::interface::TypeTable;
 use rte_text::{Seq, Text};
 
 /// A description. What refers to something holds its position in the list that declares it; each list stands in declared

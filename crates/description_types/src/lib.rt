@@ -1,5 +1,5 @@
-//! The typed description: what `component_model` reads, and what every later stage looks at; and a description made flat, its
-//! instances and which of their items are joined, as types and definitions.
+//! The typed description, with its data types, mode groups and interfaces: what `component_model` reads, and what every later stage looks
+//! at; and a description made flat, its instances and which of their items are joined, as types and definitions.
 //!
 //! What refers to something by its name holds a position: that of the first item of this name in the list that declares
 //! it. Each list stands in declared order, so positions give the JSON pointer of everything. A key that may be missing is
@@ -18,10 +18,15 @@
 //! `instance` and `event` of a `MappedEvent` are texts; all other names that refer are positions.
 #![tactic(auto)]
 
+mod base_type;
+mod check;
 mod component;
 mod description;
 mod flat;
+mod interface;
 
+pub use base_type::{BaseType, DataType, range};
+pub use check::check_types;
 pub use component::{
     Access, Behavior, Component, DisabledInModes, Event, EventKind, ItemPair, ModeActivation, Port,
     PortKind, Runnable, Variable,
@@ -31,3 +36,7 @@ pub use description::{
     TaskMapping,
 };
 pub use flat::{End, Flat, Instance, Join};
+pub use interface::{
+    ApplicationError, Argument, ComSpec, DataElement, Direction, Interface, InterfaceKind,
+    ModeElement, ModeGroup, Operation, SwImplPolicy, TypeTable,
+};

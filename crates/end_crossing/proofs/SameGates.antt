@@ -2,8 +2,8 @@
 use Rattle.std.proofs.Common.{◌≡◌, true, ℕ, refl, sym, List, [], Bool, false, cond, ap, Option, Some, None, inl, subst, ◌∙◌}
 use Rattle.std.specs.HashMap.{HashMap, Updates, UpdatesBy, get}
 use Rattle.description_types.specs.declared.description.Description.{Description}
-use Rattle.interface_types.specs.declared.interface.InterfaceKind.{InterfaceKind}
-use Rattle.interface_types.specs.declared.interface.InterfaceKind.TheVariants.{SenderReceiver, ClientServer, ModeSwitch}
+use Rattle.description_types.specs.declared.interface.InterfaceKind.{InterfaceKind}
+use Rattle.description_types.specs.declared.interface.InterfaceKind.TheVariants.{SenderReceiver, ClientServer, ModeSwitch}
 use Rattle.end_search.specs.declared.gates.Gate.{Gate}
 use Rattle.end_search.specs.declared.sides.Side.{Side}
 use Rattle.description_types.specs.Items.{element_names, operation_names, interface_at, ItemsJoin}

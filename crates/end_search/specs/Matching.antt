@@ -1,6 +1,6 @@
 -- How the joined items of two interfaces are found.
 use Rattle.std.specs.Prelude.{◌≡◌, ◌<◌, ◌^◌, ◌↔◌, ℕ, List, length, map, slice_get, Some}
-use Rattle.interface_types.specs.declared.interface.Interface.{Interface}
+use Rattle.description_types.specs.declared.interface.Interface.{Interface}
 use Rattle.description_types.specs.declared.description.Description.{Description}
 use Rattle.end_search.specs.declared.interfaces.Listed.{Listed}
 use Rattle.end_search.specs.Tables.{item_names}

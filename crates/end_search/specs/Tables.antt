@@ -3,8 +3,8 @@ use Rattle.std.specs.Prelude.{◌≡◌, ◌↔◌, ℕ, List, [], map, Bool, na
 use Rattle.std.specs.Borrow.{Bor}
 use Rattle.std.specs.Global.{Global}
 use Rattle.indexmap.specs.IndexMap.{IndexMap, get}
-use Rattle.interface_types.specs.declared.interface.InterfaceKind.{InterfaceKind}
-use Rattle.interface_types.specs.declared.interface.InterfaceKind.TheVariants.{SenderReceiver, ClientServer, ModeSwitch}
+use Rattle.description_types.specs.declared.interface.InterfaceKind.{InterfaceKind}
+use Rattle.description_types.specs.declared.interface.InterfaceKind.TheVariants.{SenderReceiver, ClientServer, ModeSwitch}
 use Rattle.composition_tables.specs.declared.tree.PortEnd.{PortEnd}
 use Rattle.description_types.specs.Items.{element_names, operation_names}
 use Rattle.description_types.specs.Members.{Among}

@@ -6,7 +6,7 @@ ghost use Rattle.end_search.specs.Sharing.{item_keys, keys_of};
 ghost use Rattle.end_search.specs.Tables.{names_of, item_names};
 
 use crate::names::Names;
-use interface_types::{DataElement, InterfaceKind, Operation};
+use description_types::{DataElement, InterfaceKind, Operation};
 use rte_text::Memory;
 use std::alloc::Global;
 

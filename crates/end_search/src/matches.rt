@@ -7,8 +7,7 @@ ghost use Rattle.end_search.specs.Matching.{AreListed, HasFewItems, turned};
 
 use crate::interfaces::{Listed, with_names};
 use crate::names::Names;
-use description_types::Description;
-use interface_types::InterfaceKind;
+use description_types::{Description, InterfaceKind};
 use rte_text::Memory;
 use std::alloc::Global;
 

@@ -9,9 +9,9 @@ ghost use Rattle.event_mapping.specs.Guard.{at_most, counted_with, events_of_ins
 
 use crate::size::{EVENTS, POINTS, THINGS};
 use description_types::{
-    Access, Component, Description, Flat, Instance, Join, Port, PortKind, Runnable,
+    Access, Component, Description, Flat, Instance, InterfaceKind, Join, Port, PortKind, Runnable,
+    TypeTable,
 };
-use interface_types::{InterfaceKind, TypeTable};
 use rte_text::Memory;
 use runnable_lang::AccessKind;
 use std::alloc::Global;

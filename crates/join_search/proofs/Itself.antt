@@ -5,20 +5,20 @@ use Rattle.std.proofs.lemmas.Bool.Decides.{Decides-int_eq}
 use Rattle.std.proofs.lemmas.Slice.Eq.{bytes_eq-Decides}
 use Rattle.std.specs.Cmp.Lexicographic.{pointwise}
 use Rattle.std.specs.List.{list_all, list_any}
-use Rattle.interface_types.specs.declared.base_type.DataType.{DataType}
-use Rattle.interface_types.specs.declared.interface.ApplicationError.{ApplicationError}
-use Rattle.interface_types.specs.declared.interface.Argument.{Argument}
-use Rattle.interface_types.specs.declared.interface.DataElement.{DataElement}
-use Rattle.interface_types.specs.declared.interface.Direction.{Direction}
-use Rattle.interface_types.specs.declared.interface.Direction.TheVariants.{In, Out}
-use Rattle.interface_types.specs.declared.interface.Interface.{Interface}
-use Rattle.interface_types.specs.declared.interface.InterfaceKind.{InterfaceKind}
-use Rattle.interface_types.specs.declared.interface.InterfaceKind.TheVariants.{SenderReceiver, ClientServer, ModeSwitch}
-use Rattle.interface_types.specs.declared.interface.ModeGroup.{ModeGroup}
-use Rattle.interface_types.specs.declared.interface.Operation.{Operation}
-use Rattle.interface_types.specs.declared.interface.SwImplPolicy.{SwImplPolicy}
-use Rattle.interface_types.specs.declared.interface.SwImplPolicy.TheVariants.{Standard, Queued}
-use Rattle.interface_types.specs.declared.interface.TypeTable.{TypeTable}
+use Rattle.description_types.specs.declared.base_type.DataType.{DataType}
+use Rattle.description_types.specs.declared.interface.ApplicationError.{ApplicationError}
+use Rattle.description_types.specs.declared.interface.Argument.{Argument}
+use Rattle.description_types.specs.declared.interface.DataElement.{DataElement}
+use Rattle.description_types.specs.declared.interface.Direction.{Direction}
+use Rattle.description_types.specs.declared.interface.Direction.TheVariants.{In, Out}
+use Rattle.description_types.specs.declared.interface.Interface.{Interface}
+use Rattle.description_types.specs.declared.interface.InterfaceKind.{InterfaceKind}
+use Rattle.description_types.specs.declared.interface.InterfaceKind.TheVariants.{SenderReceiver, ClientServer, ModeSwitch}
+use Rattle.description_types.specs.declared.interface.ModeGroup.{ModeGroup}
+use Rattle.description_types.specs.declared.interface.Operation.{Operation}
+use Rattle.description_types.specs.declared.interface.SwImplPolicy.{SwImplPolicy}
+use Rattle.description_types.specs.declared.interface.SwImplPolicy.TheVariants.{Standard, Queued}
+use Rattle.description_types.specs.declared.interface.TypeTable.{TypeTable}
 use Rattle.plan_definitions.specs.Types.{agree, are_compatible_types, base_number, types_agree}
 use Rattle.plan_definitions.specs.Interfaces.{same_policy, same_direction, serves_element, same_argument, same_error, declares_errors, serves_operation, same_modes, serves, serves_in, are_compatible}
 

@@ -4,7 +4,7 @@ ghost use Rattle.std.specs.Prelude.{◌≡◌};
 ghost use Rattle.plan_definitions.specs.Interfaces.{same_policy, serves_element, same_modes, groups_agree};
 
 use crate::types::types_agree;
-use interface_types::{DataElement, ModeElement, ModeGroup, SwImplPolicy, TypeTable};
+use description_types::{DataElement, ModeElement, ModeGroup, SwImplPolicy, TypeTable};
 
 fn same_policy(a: SwImplPolicy, b: SwImplPolicy) -> bool
     ensures { result ≡ same_policy a b }

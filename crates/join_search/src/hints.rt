@@ -7,8 +7,8 @@ ghost use Rattle.plan_definitions.specs.Interfaces.{item_count, serves_element, 
 
 use crate::elements::serves_element;
 use crate::operations::serves_operation;
+use description_types::{DataElement, InterfaceKind, Operation, TypeTable};
 use indexmap::IndexMap;
-use interface_types::{DataElement, InterfaceKind, Operation, TypeTable};
 use rte_text::{Memory, Text};
 use std::alloc::Global;
 

@@ -9,8 +9,9 @@ use crate::item::Item;
 use crate::partners::Degrees;
 use crate::ports::ports_of;
 use crate::suspects::Suspects;
-use description_types::{Description, Flat, Instance, Port, PortKind, PrototypeType};
-use interface_types::InterfaceKind;
+use description_types::{
+    Description, Flat, Instance, InterfaceKind, Port, PortKind, PrototypeType,
+};
 use plan_definitions::JoinRule;
 use rte_text::Memory;
 use std::alloc::Global;

@@ -5,7 +5,7 @@ ghost use Rattle.plan_definitions.specs.Interfaces.{serves, are_compatible};
 
 use crate::elements::groups_agree;
 use crate::hints::{Hints, hints_of, serve_elements, serve_operations};
-use interface_types::{InterfaceKind, TypeTable};
+use description_types::{InterfaceKind, TypeTable};
 use rte_text::Memory;
 use std::alloc::Global;
 

@@ -5,8 +5,7 @@ ghost use Rattle.plan_definitions.specs.Names.{end_text, item_name, item_of_port
 
 use crate::item::Item;
 use crate::ports::ports_of;
-use description_types::{Description, Flat, Port, PrototypeType};
-use interface_types::InterfaceKind;
+use description_types::{Description, Flat, InterfaceKind, Port, PrototypeType};
 use rte_text::{Memory, Text};
 use std::alloc::Global;
 

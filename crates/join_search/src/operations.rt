@@ -5,7 +5,7 @@ ghost use Rattle.std.specs.List.{list_any};
 ghost use Rattle.plan_definitions.specs.Interfaces.{same_direction, same_argument, same_arguments, same_error, declares_errors, serves_operation};
 
 use crate::types::types_agree;
-use interface_types::{ApplicationError, Argument, Direction, Operation, TypeTable};
+use description_types::{ApplicationError, Argument, Direction, Operation, TypeTable};
 
 fn same_direction(a: Direction, b: Direction) -> bool
     ensures { result ≡ same_direction a b }

@@ -4,8 +4,7 @@ ghost use Rattle.std.specs.Prelude.{◌≡◌};
 ghost use Rattle.plan_definitions.specs.Connectors.{is_client_server, requires_server, root_client};
 
 use crate::ports::ports_of;
-use description_types::{Description, Port, PortKind, PrototypeType};
-use interface_types::{InterfaceKind, TypeTable};
+use description_types::{Description, InterfaceKind, Port, PortKind, PrototypeType, TypeTable};
 
 fn is_client_server(kind: &InterfaceKind) -> bool
     ensures { result ≡ is_client_server kind.now }

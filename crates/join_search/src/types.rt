@@ -3,7 +3,7 @@
 ghost use Rattle.std.specs.Prelude.{◌≡◌};
 ghost use Rattle.plan_definitions.specs.Types.{are_compatible_types, base_number, types_agree};
 
-use interface_types::{BaseType, DataType};
+use description_types::{BaseType, DataType};
 
 fn base_number(base: BaseType) -> u8
     ensures { result ≡ base_number base }

@@ -10,9 +10,9 @@ use Rattle.description_types.specs.declared.description.Composition as compositi
 use Rattle.description_types.specs.declared.description.Description.{Description}
 use Rattle.description_types.specs.declared.description.PrototypeType.{PrototypeType}
 use Rattle.description_types.specs.declared.description.PrototypeType.TheVariants.{Component, Composition}
-use Rattle.interface_types.specs.declared.interface.Interface.{Interface}
-use Rattle.interface_types.specs.declared.interface.InterfaceKind.{InterfaceKind}
-use Rattle.interface_types.specs.declared.interface.InterfaceKind.TheVariants.{SenderReceiver, ClientServer, ModeSwitch}
+use Rattle.description_types.specs.declared.interface.Interface.{Interface}
+use Rattle.description_types.specs.declared.interface.InterfaceKind.{InterfaceKind}
+use Rattle.description_types.specs.declared.interface.InterfaceKind.TheVariants.{SenderReceiver, ClientServer, ModeSwitch}
 use Rattle.description_types.specs.declared.flat.End.{End}
 use Rattle.description_types.specs.declared.flat.Join.{Join}
 use Rattle.description_types.specs.Connectors.{interface_of, ports_of}

@@ -8,8 +8,8 @@ use Rattle.description_types.specs.declared.description.Connector.TheVariants.{A
 use Rattle.description_types.specs.declared.description.Description.{Description}
 use Rattle.description_types.specs.declared.description.PrototypeType.{PrototypeType}
 use Rattle.description_types.specs.declared.description.PrototypeType.TheVariants.{Component, Composition}
-use Rattle.interface_types.specs.declared.interface.InterfaceKind.{InterfaceKind}
-use Rattle.interface_types.specs.declared.interface.InterfaceKind.TheVariants.{SenderReceiver, ClientServer, ModeSwitch}
+use Rattle.description_types.specs.declared.interface.InterfaceKind.{InterfaceKind}
+use Rattle.description_types.specs.declared.interface.InterfaceKind.TheVariants.{SenderReceiver, ClientServer, ModeSwitch}
 use Rattle.description_types.specs.declared.flat.Join.{Join}
 use Rattle.description_types.specs.Connectors.{connectors_of, kind_of, lets_join}
 use Rattle.description_types.specs.Items.{IsSameName, ItemsJoin, element_names, operation_names}

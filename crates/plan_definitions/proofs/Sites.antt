@@ -2,8 +2,8 @@
 -- have one key.
 use Rattle.std.proofs.Common.{◌≡◌, ℕ, ◌+◌, ◌<◌, List, [], length, Option, Some, None, option_map, option_and_then, ◌⊎◌, inl, inr, ⊎_elim, refl, sym, ap, subst, ◌∙◌, arith, slice_get}
 use Rattle.std.specs.Option.{option_map_or}
-use Rattle.interface_types.specs.declared.interface.Interface.{Interface}
-use Rattle.interface_types.specs.declared.interface.TypeTable.{TypeTable}
+use Rattle.description_types.specs.declared.interface.Interface.{Interface}
+use Rattle.description_types.specs.declared.interface.TypeTable.{TypeTable}
 use Rattle.description_types.specs.declared.component.Component.{Component}
 use Rattle.description_types.specs.declared.component.Port.{Port}
 use Rattle.description_types.specs.declared.description.Description.{Description}

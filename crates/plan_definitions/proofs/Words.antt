@@ -8,11 +8,11 @@ use Rattle.std.specs.Ordering.{int_eq}
 use Rattle.rte_value.specs.declared.kinds.Limits.{Limits}
 use Rattle.rte_value.specs.Arithmetic.{clamped}
 use Rattle.rte_value.specs.Values.{same_words}
-use Rattle.interface_types.specs.declared.base_type.BaseType.{BaseType}
-use Rattle.interface_types.specs.declared.base_type.BaseType.TheVariants.{Boolean, Uint8, Uint16, Uint32, Sint8, Sint16, Sint32}
-use Rattle.interface_types.specs.declared.base_type.DataType.{DataType}
-use Rattle.interface_types.specs.Ranges.{keeps_range, range_of}
-use Rattle.interface_types.specs.Initials.{fits, is_within}
+use Rattle.description_types.specs.declared.base_type.BaseType.{BaseType}
+use Rattle.description_types.specs.declared.base_type.BaseType.TheVariants.{Boolean, Uint8, Uint16, Uint32, Sint8, Sint16, Sint32}
+use Rattle.description_types.specs.declared.base_type.DataType.{DataType}
+use Rattle.description_types.specs.Ranges.{keeps_range, range_of}
+use Rattle.description_types.specs.Initials.{fits, is_within}
 use Rattle.bus_semantics.specs.SoundElements.{limits_fit, zeros}
 use Rattle.plan_definitions.specs.Elements.{held, zeros as type_zeros}
 

@@ -4,8 +4,8 @@ use Rattle.std.specs.List.{flat_map, position_from}
 use Rattle.std.specs.Option.{option_map_or, unwrap_or}
 use Rattle.runnable_lang.specs.declared.program.AccessKind.{AccessKind}
 use Rattle.runnable_lang.specs.declared.program.AccessKind.TheVariants as kind
-use Rattle.interface_types.specs.declared.interface.InterfaceKind.{InterfaceKind}
-use Rattle.interface_types.specs.declared.interface.InterfaceKind.TheVariants.{ClientServer}
+use Rattle.description_types.specs.declared.interface.InterfaceKind.{InterfaceKind}
+use Rattle.description_types.specs.declared.interface.InterfaceKind.TheVariants.{ClientServer}
 use Rattle.description_types.specs.declared.component.Access.{Access}
 use Rattle.description_types.specs.declared.component.Component.{Component}
 use Rattle.description_types.specs.declared.component.Port.{Port}

@@ -1,7 +1,7 @@
 -- Whether events fit their ports (Software Component Template: RTEEvent, ModeDisablingDependency).
 use Rattle.std.specs.Prelude.{ℕ, List, Bool, true, false, ◌&&◌, nat_lt, Option, Some, None}
 use Rattle.std.specs.List.{list_all}
-use Rattle.interface_types.specs.declared.interface.TypeTable.{TypeTable}
+use Rattle.description_types.specs.declared.interface.TypeTable.{TypeTable}
 use Rattle.description_types.specs.declared.component.Component.{Component}
 use Rattle.description_types.specs.declared.component.DisabledInModes.{DisabledInModes}
 use Rattle.description_types.specs.declared.component.EventKind.{EventKind}

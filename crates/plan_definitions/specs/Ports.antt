@@ -3,9 +3,9 @@
 use Rattle.std.specs.Prelude.{ℕ, List, [], ◌++◌, nat_eq, codes, slice_get, Option, Some, None, option_map, option_and_then}
 use Rattle.std.specs.List.{find}
 use Rattle.std.specs.Option.{option_map_or}
-use Rattle.interface_types.specs.declared.interface.ComSpec.{ComSpec}
-use Rattle.interface_types.specs.declared.interface.InterfaceKind.{InterfaceKind}
-use Rattle.interface_types.specs.declared.interface.InterfaceKind.TheVariants.{SenderReceiver, ClientServer, ModeSwitch}
+use Rattle.description_types.specs.declared.interface.ComSpec.{ComSpec}
+use Rattle.description_types.specs.declared.interface.InterfaceKind.{InterfaceKind}
+use Rattle.description_types.specs.declared.interface.InterfaceKind.TheVariants.{SenderReceiver, ClientServer, ModeSwitch}
 use Rattle.description_types.specs.declared.component.Component.{Component}
 use Rattle.description_types.specs.declared.component.Port.{Port}
 use Rattle.description_types.specs.declared.description.Description.{Description}

@@ -3,7 +3,7 @@ use Rattle.std.specs.Prelude.{ℕ, List, Bool, true, ◌==◌, Option, Some, Non
 use Rattle.std.specs.Arc.{arc_value}
 use Rattle.runnable_lang.specs.Refusals.{refusal}
 use Rattle.runnable_lang.specs.Trees.{program_tree}
-use Rattle.interface_types.specs.declared.interface.TypeTable.{TypeTable}
+use Rattle.description_types.specs.declared.interface.TypeTable.{TypeTable}
 use Rattle.description_types.specs.declared.component.Component.{Component}
 use Rattle.description_types.specs.declared.component.Runnable.{Runnable}
 use Rattle.description_types.specs.declared.description.Description.{Description}

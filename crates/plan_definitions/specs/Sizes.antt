@@ -1,8 +1,8 @@
 -- How much a description lists: a file of 8 MiB lists fewer than 2 ^ 22 things of each kind in a component, so that 32 bits number
 -- those of the 1,024 instances that rule 10 lets be.
 use Rattle.std.specs.Prelude.{◌≡◌, ◌<◌, ◌^◌, ℕ, length, slice_get, Some}
-use Rattle.interface_types.specs.declared.interface.Interface.{Interface}
-use Rattle.interface_types.specs.declared.interface.TypeTable.{TypeTable}
+use Rattle.description_types.specs.declared.interface.Interface.{Interface}
+use Rattle.description_types.specs.declared.interface.TypeTable.{TypeTable}
 use Rattle.description_types.specs.declared.component.Component.{Component}
 use Rattle.description_types.specs.declared.description.Composition.{Composition}
 use Rattle.description_types.specs.declared.description.Description.{Description}

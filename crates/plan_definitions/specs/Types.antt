@@ -2,9 +2,9 @@
 -- word count are equal).
 use Rattle.std.specs.Prelude.{ℕ, List, Bool, true, false, ◌&&◌, nat_eq, slice_get, Option, Some, None}
 use Rattle.std.specs.Ordering.{int_eq}
-use Rattle.interface_types.specs.declared.base_type.BaseType.{BaseType}
-use Rattle.interface_types.specs.declared.base_type.BaseType.TheVariants.{Boolean, Uint8, Uint16, Uint32, Sint8, Sint16, Sint32}
-use Rattle.interface_types.specs.declared.base_type.DataType.{DataType}
+use Rattle.description_types.specs.declared.base_type.BaseType.{BaseType}
+use Rattle.description_types.specs.declared.base_type.BaseType.TheVariants.{Boolean, Uint8, Uint16, Uint32, Sint8, Sint16, Sint32}
+use Rattle.description_types.specs.declared.base_type.DataType.{DataType}
 
 -- two things that may be missing agree: both are missing, or both are there and alike
 abbrev pub agree : {X : Type 0} → (X → X → Bool) → Option X → Option X → Bool

@@ -1,6 +1,6 @@
 //! An item of an interface, as its kind and its parts.
 
-use interface_types::SwImplPolicy;
+use description_types::SwImplPolicy;
 
 /// What an item of a port is.
 #[derive(Clone, Copy)]

@@ -7,7 +7,7 @@ ghost use Rattle.rte_value.specs.Values.{words_of as value_words};
 ghost use Rattle.plan_definitions.specs.Elements.{held, keeps_last, keeps_queue, limits_of, words_of, zeros};
 
 use bus_semantics::ElemKind;
-use interface_types::{ComSpec, DataType};
+use description_types::{ComSpec, DataType};
 use plan_definitions::SiteKind;
 use rte_text::Seq;
 use rte_value::{Limits, MOST_WORDS, Value, Word};

@@ -6,8 +6,7 @@ ghost use Rattle.bus_semantics.specs.declared.plan.ElemKind.TheVariants.{Unqueue
 ghost use Rattle.plan_definitions.specs.Elements.{element_in, policy_kind, variable_at};
 
 use bus_semantics::ElemKind;
-use description_types::Variable;
-use interface_types::{DataElement, DataType, InterfaceKind, SwImplPolicy};
+use description_types::{DataElement, DataType, InterfaceKind, SwImplPolicy, Variable};
 use plan_numbers::{Source, component_of};
 
 fn element_in(kind: &InterfaceKind, item: u32) -> Option<&DataElement>

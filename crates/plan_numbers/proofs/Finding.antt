@@ -3,7 +3,7 @@ use Rattle.std.proofs.Common.{◌≡◌, ℕ, zero, suc, ◌+◌, List, [], ◌�
 use Rattle.std.specs.List.{find, position_from, slice_get}
 use Rattle.std.specs.Map.{lookup}
 use Rattle.std.specs.Option.{option_and_then, option_map}
-use Rattle.interface_types.specs.declared.interface.ComSpec.{ComSpec}
+use Rattle.description_types.specs.declared.interface.ComSpec.{ComSpec}
 use Rattle.description_types.specs.declared.flat.End.{End}
 use Rattle.description_types.specs.declared.flat.Join.{Join}
 use Rattle.plan_definitions.specs.Joined.{provider_of, same_end}

@@ -6,9 +6,9 @@ use Rattle.description_types.specs.declared.component.Port.{Port}
 use Rattle.description_types.specs.declared.description.Description.{Description}
 use Rattle.description_types.specs.declared.flat.Flat.{Flat}
 use Rattle.description_types.specs.declared.flat.Instance.{Instance}
-use Rattle.interface_types.specs.declared.interface.InterfaceKind.{InterfaceKind}
-use Rattle.interface_types.specs.declared.interface.InterfaceKind.TheVariants.{SenderReceiver, ClientServer, ModeSwitch}
-use Rattle.interface_types.specs.declared.interface.TypeTable.{TypeTable}
+use Rattle.description_types.specs.declared.interface.InterfaceKind.{InterfaceKind}
+use Rattle.description_types.specs.declared.interface.InterfaceKind.TheVariants.{SenderReceiver, ClientServer, ModeSwitch}
+use Rattle.description_types.specs.declared.interface.TypeTable.{TypeTable}
 use Rattle.plan_definitions.specs.Sites.{root_ports}
 use Rattle.plan_definitions.specs.Things.{elements_of}
 use Rattle.plan_numbers.specs.declared.starts.Starts.{Starts}

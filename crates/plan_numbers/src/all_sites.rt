@@ -6,8 +6,9 @@ ghost use Rattle.plan_definitions.specs.Sizes.{HasFewInside, HasFewParts, HasFew
 ghost use Rattle.plan_definitions.specs.Sites.{site, provides_at, kind_at, count_at, shape_at, sites_with, sites_at, sites_of_ports, variables_of, sites_of_component, sites_of_instance, root_ports, sites};
 
 use crate::numbers::position;
-use description_types::{Component, Description, Flat, Instance, Port, PortKind};
-use interface_types::{InterfaceKind, TypeTable};
+use description_types::{
+    Component, Description, Flat, Instance, InterfaceKind, Port, PortKind, TypeTable,
+};
 use plan_definitions::{Site, SiteKind};
 use rte_text::Memory;
 use std::alloc::Global;

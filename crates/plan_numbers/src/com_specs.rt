@@ -8,8 +8,7 @@ ghost use Rattle.plan_definitions.specs.Ports.{com_spec_of, ports_of};
 
 use crate::owners::ports_of;
 use crate::positions::Positions;
-use description_types::{Component, Description, Flat, Port};
-use interface_types::ComSpec;
+use description_types::{ComSpec, Component, Description, Flat, Port};
 use rte_text::{Memory, Seq};
 use std::alloc::Global;
 

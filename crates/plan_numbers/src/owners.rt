@@ -5,8 +5,7 @@ ghost use Rattle.plan_definitions.specs.Parts.{component_of};
 ghost use Rattle.plan_definitions.specs.Sites.{root_ports};
 ghost use Rattle.plan_definitions.specs.Ports.{interface_of, port_of, ports_of};
 
-use description_types::{Component, Description, Flat, Port};
-use interface_types::InterfaceKind;
+use description_types::{Component, Description, Flat, InterfaceKind, Port};
 
 /// The component of an instance.
 pub fn component_of<'a>(d: &'a Description, f: &Flat, instance: u32) -> Option<&'a Component>

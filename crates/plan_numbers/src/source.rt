@@ -16,8 +16,7 @@ use crate::com_specs::{PortTables, com_spec_of, port_tables};
 use crate::joined::Joined;
 use crate::lists::{AllNumbers, Lists, all_numbers, lists_of};
 use crate::starts::{Starts, element_number, element_place, starts_of};
-use description_types::{Description, End, Flat};
-use interface_types::ComSpec;
+use description_types::{ComSpec, Description, End, Flat};
 use rte_text::Memory;
 use std::alloc::Global;
 

@@ -8,8 +8,7 @@ ghost use Rattle.plan_numbers.specs.Starts.{AreStarts, behind, between, capped, 
 
 use crate::numbers::{Key, position};
 use crate::owners::ports_of;
-use description_types::{Component, Description, Flat, Instance, Port};
-use interface_types::{InterfaceKind, TypeTable};
+use description_types::{Component, Description, Flat, Instance, InterfaceKind, Port, TypeTable};
 use rte_text::{Memory, Seq};
 use std::alloc::Global;
 

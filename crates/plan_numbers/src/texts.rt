@@ -5,8 +5,7 @@ ghost use Rattle.std.specs.Option.{option_map_or};
 ghost use Rattle.plan_definitions.specs.Ports.{item_name, item_text, variable_name};
 
 use crate::owners::{component_of, interface_at, port_of};
-use description_types::{Description, Flat, Port};
-use interface_types::InterfaceKind;
+use description_types::{Description, Flat, InterfaceKind, Port};
 use rte_text::{Memory, Text};
 use std::alloc::Global;
 

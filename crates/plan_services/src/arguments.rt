@@ -6,8 +6,7 @@ ghost use Rattle.plan_definitions.specs.Signatures.{arguments_of, goes, limits_o
 ghost use Rattle.plan_definitions.specs.Services.{argument_of, is_out, operation_at, operation_in};
 
 use bus_semantics::ArgPlan;
-use description_types::Description;
-use interface_types::{Argument, DataType, Direction, InterfaceKind, Operation};
+use description_types::{Argument, DataType, Description, Direction, InterfaceKind, Operation};
 use plan_numbers::{Source, interface_of};
 use rte_text::{Memory, Seq};
 use rte_value::{Code, Limits};

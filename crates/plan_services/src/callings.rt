@@ -7,8 +7,9 @@ ghost use Rattle.plan_definitions.specs.Lists.{from, positions};
 ghost use Rattle.plan_definitions.specs.Sizes.{HasFewParts, HasFewThings, HasShortInterfaces};
 ghost use Rattle.plan_definitions.specs.Callings.{calling_of, callings, callings_in, callings_of_component, operation_count, operations_at, outer_calling, outer_callings};
 
-use description_types::{Access, Component, Description, Flat, Instance, Port, PortKind, Runnable};
-use interface_types::InterfaceKind;
+use description_types::{
+    Access, Component, Description, Flat, Instance, InterfaceKind, Port, PortKind, Runnable,
+};
 use plan_definitions::Calling;
 use plan_numbers::{ports_of, position};
 use rte_text::Memory;

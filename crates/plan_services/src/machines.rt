@@ -7,8 +7,7 @@ ghost use Rattle.plan_services.specs.Users.{AreUsers};
 
 use crate::users::Users;
 use bus_semantics::{MachinePlan, ModePortPlan};
-use description_types::Description;
-use interface_types::{InterfaceKind, ModeGroup};
+use description_types::{Description, InterfaceKind, ModeGroup};
 use plan_definitions::Site;
 use plan_numbers::{Source, interface_of, item_text};
 use rte_text::{Memory, Seq, Text};

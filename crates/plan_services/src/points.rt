@@ -10,7 +10,7 @@ ghost use Rattle.plan_definitions.specs.Services.{point_of, point_words};
 
 use crate::arguments::words_at;
 use bus_semantics::PointPlan;
-use interface_types::Direction;
+use description_types::Direction;
 use plan_definitions::Calling;
 use plan_numbers::{Source, item_text};
 use rte_text::{Memory, Seq};

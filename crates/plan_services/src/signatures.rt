@@ -5,8 +5,7 @@ ghost use Rattle.plan_definitions.specs.WellFormed.{types_fit};
 ghost use Rattle.plan_services.specs.Shared.{AreOfAll, accesses_of, signature_in};
 
 use component_rules::signature_of;
-use description_types::{Component, Description, Runnable};
-use interface_types::TypeTable;
+use description_types::{Component, Description, Runnable, TypeTable};
 use rte_text::{Memory, Seq};
 use runnable_lang::Signature;
 use std::alloc::Global;

@@ -8,8 +8,7 @@ ghost use Rattle.plan_text.specs.Lines.{end_text, join_line};
 ghost use Rattle.plan_text.specs.Beginnings.{Begins, beginning};
 
 use crate::lines::{add_owned, item_name, owner_text, port_name};
-use description_types::{Description, End, Flat, Join, Port};
-use interface_types::InterfaceKind;
+use description_types::{Description, End, Flat, InterfaceKind, Join, Port};
 use plan_numbers::{interface_at, interface_of, port_of};
 use rte_text::Memory;
 use std::alloc::Global;

@@ -6,8 +6,7 @@ ghost use Rattle.plan_definitions.specs.Ports.{item_name, port_name};
 ghost use Rattle.plan_text.specs.Lines.{component_text, direct_line, event_line, instance_line, machine_line, owned_text, owner_text, task_line};
 
 use bus_semantics::{BusPlan, EventPlan, MachinePlan};
-use description_types::{Description, Flat, Instance, MappedEvent, Task};
-use interface_types::InterfaceKind;
+use description_types::{Description, Flat, Instance, InterfaceKind, MappedEvent, Task};
 use itoa::Buffer;
 use plan_numbers::ports_of;
 use rte_text::Memory;

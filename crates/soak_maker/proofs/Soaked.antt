@@ -1,11 +1,11 @@
 -- The typed description of `soak N`, with any three programs.
 use Rattle.std.proofs.Common.{◌+◌, ◌%◌, ℕ, pos, false, List, [], ◌∷◌, map, codes, None}
-use Rattle.interface_types.specs.declared.base_type.BaseType.TheVariants as base
-use Rattle.interface_types.specs.declared.interface.ComSpec.{ComSpec}
-use Rattle.interface_types.specs.declared.interface.Direction.TheVariants.{In, Out}
-use Rattle.interface_types.specs.declared.interface.InterfaceKind.TheVariants.{SenderReceiver, ClientServer}
-use Rattle.interface_types.specs.declared.interface.SwImplPolicy.TheVariants.{Queued}
-use Rattle.interface_types.specs.declared.interface.TypeTable.{TypeTable}
+use Rattle.description_types.specs.declared.base_type.BaseType.TheVariants as base
+use Rattle.description_types.specs.declared.interface.ComSpec.{ComSpec}
+use Rattle.description_types.specs.declared.interface.Direction.TheVariants.{In, Out}
+use Rattle.description_types.specs.declared.interface.InterfaceKind.TheVariants.{SenderReceiver, ClientServer}
+use Rattle.description_types.specs.declared.interface.SwImplPolicy.TheVariants.{Queued}
+use Rattle.description_types.specs.declared.interface.TypeTable.{TypeTable}
 use Rattle.runnable_lang.specs.declared.program.AccessKind.{AccessKind}
 use Rattle.runnable_lang.specs.declared.program.AccessKind.TheVariants as kind
 use Rattle.runnable_lang.specs.declared.stmt.Op.TheVariants as op

@@ -8,8 +8,8 @@ use Rattle.std.specs.List.{flat_map, list_all, list_any, slice_get, sum_by}
 use Rattle.std.specs.Option.{option_map_or}
 use Rattle.runnable_lang.specs.declared.program.AccessKind.{AccessKind}
 use Rattle.runnable_lang.specs.declared.program.AccessKind.TheVariants as kind
-use Rattle.interface_types.specs.declared.interface.DataElement.{DataElement}
-use Rattle.interface_types.specs.declared.interface.SwImplPolicy.TheVariants.{Standard}
+use Rattle.description_types.specs.declared.interface.DataElement.{DataElement}
+use Rattle.description_types.specs.declared.interface.SwImplPolicy.TheVariants.{Standard}
 use Rattle.description_types.specs.declared.component.Access.{Access}
 use Rattle.description_types.specs.declared.component.Component.{Component}
 use Rattle.description_types.specs.declared.component.ItemPair.{ItemPair}
@@ -266,8 +266,8 @@ module _ (d : Description) (f : Flat) (p : BusPlan) (m : Mapping) (w : IsWhole d
       words_are =
           let e = data_elem d f es seen_as x.i x.c x.home y.port y.item side Standard item in
           let z = data_in d f es seen_as x.i x.c x.home y.port y.item side Standard item in
-          let kind_is : kind_at d.types x.c y.port ≡ Some item.interface.kind = ap (λ o. option_map (λ (z : Rattle.interface_types.specs.declared.interface.Interface.Interface). z.kind) (option_and_then (λ (q : Port). slice_get d.types.interfaces q.interface) o)) item.there
-          ∙ ap (option_map (λ (z : Rattle.interface_types.specs.declared.interface.Interface.Interface). z.kind)) item.has in
+          let kind_is : kind_at d.types x.c y.port ≡ Some item.interface.kind = ap (λ o. option_map (λ (z : Rattle.description_types.specs.declared.interface.Interface.Interface). z.kind) (option_and_then (λ (q : Port). slice_get d.types.interfaces q.interface) o)) item.there
+          ∙ ap (option_map (λ (z : Rattle.description_types.specs.declared.interface.Interface.Interface). z.kind)) item.has in
           looked es (E y) e.elem (λ (u : ElemPlan). u.words) 0 e.there ∙ e.words
           ∙ sym (ap (λ o. option_map_or (λ kind. words_in d.types kind y.item) o 0) kind_is ∙ ap (λ kind. words_in d.types kind y.item) z.is
           ∙ ap (λ o. option_map_or (λ (u : DataElement). coherent.words_of_type d.types u.of_type) o 0) z.there)

@@ -4,7 +4,7 @@ use Rattle.std.proofs.Common.{◌≡◌, ℕ, List, [], ◌∷◌, map, Bool, tr
 use Rattle.std.proofs.lemmas.Bool.{and_parts, not-true}
 use Rattle.std.specs.List.{list_any}
 use Rattle.rte_value.specs.declared.kinds.Limits.{Limits}
-use Rattle.interface_types.specs.declared.base_type.DataType.{DataType}
+use Rattle.description_types.specs.declared.base_type.DataType.{DataType}
 use Rattle.description_types.specs.declared.component.Port.{Port}
 use Rattle.description_types.specs.declared.component.PortKind.{PortKind}
 use Rattle.description_types.specs.declared.component.PortKind.TheVariants.{Provided, Required}

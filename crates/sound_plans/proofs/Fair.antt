@@ -2,9 +2,9 @@
 use Rattle.std.proofs.Common.{◌≡◌, ℕ, zero, suc, ◌+◌, ◌<◌, List, [], ◌∷◌, length, filter, Bool, true, false, not, ◌&&◌, if◌then◌else◌, Option, Some, None, option_and_then, ◌⊎◌, inl, inr, ⊎_elim, refl, sym, ap, subst, ◌∙◌, arith, slice_get}
 use Rattle.std.proofs.lemmas.Bool.{and_cases, not-false}
 use Rattle.std.specs.Option.{option_map_or}
-use Rattle.interface_types.specs.declared.interface.DataElement.{DataElement}
-use Rattle.interface_types.specs.declared.interface.Interface.{Interface}
-use Rattle.interface_types.specs.declared.interface.InterfaceKind.TheVariants.{SenderReceiver}
+use Rattle.description_types.specs.declared.interface.DataElement.{DataElement}
+use Rattle.description_types.specs.declared.interface.Interface.{Interface}
+use Rattle.description_types.specs.declared.interface.InterfaceKind.TheVariants.{SenderReceiver}
 use Rattle.description_types.specs.declared.component.Component.{Component as DeclaredComponent}
 use Rattle.description_types.specs.declared.component.Port.{Port}
 use Rattle.description_types.specs.declared.component.PortKind.{PortKind}

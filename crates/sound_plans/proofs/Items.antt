@@ -3,15 +3,15 @@ use Rattle.std.proofs.Common.{◌≡◌, ℕ, true, refl, ◌∙◌, ap, List, l
 use Rattle.std.specs.List.{slice_get}
 use Rattle.std.proofs.lemmas.Bool.{false≢true}
 use Rattle.std.proofs.lemmas.Option.{same_Some}
-use Rattle.interface_types.specs.declared.interface.DataElement.{DataElement}
-use Rattle.interface_types.specs.declared.interface.Interface.{Interface}
-use Rattle.interface_types.specs.declared.interface.InterfaceKind.{InterfaceKind}
-use Rattle.interface_types.specs.declared.interface.InterfaceKind.TheVariants.{SenderReceiver, ClientServer, ModeSwitch}
-use Rattle.interface_types.specs.declared.interface.ModeElement.{ModeElement}
-use Rattle.interface_types.specs.declared.interface.ModeGroup.{ModeGroup}
-use Rattle.interface_types.specs.declared.interface.Operation as declared_operation
-use Rattle.interface_types.specs.declared.interface.SwImplPolicy.{SwImplPolicy}
-use Rattle.interface_types.specs.declared.interface.TypeTable.{TypeTable}
+use Rattle.description_types.specs.declared.interface.DataElement.{DataElement}
+use Rattle.description_types.specs.declared.interface.Interface.{Interface}
+use Rattle.description_types.specs.declared.interface.InterfaceKind.{InterfaceKind}
+use Rattle.description_types.specs.declared.interface.InterfaceKind.TheVariants.{SenderReceiver, ClientServer, ModeSwitch}
+use Rattle.description_types.specs.declared.interface.ModeElement.{ModeElement}
+use Rattle.description_types.specs.declared.interface.ModeGroup.{ModeGroup}
+use Rattle.description_types.specs.declared.interface.Operation as declared_operation
+use Rattle.description_types.specs.declared.interface.SwImplPolicy.{SwImplPolicy}
+use Rattle.description_types.specs.declared.interface.TypeTable.{TypeTable}
 use Rattle.description_types.specs.declared.component.Port.{Port}
 use Rattle.description_types.specs.declared.component.PortKind.{PortKind}
 use Rattle.description_types.specs.declared.component.PortKind.TheVariants.{Provided, Required}

@@ -12,16 +12,16 @@ use Rattle.rte_value.specs.declared.kinds.Limits.{Limits}
 use Rattle.rte_value.specs.Values.{same_number, same_words}
 use Rattle.runnable_lang.specs.declared.program.AccessKind.{AccessKind}
 use Rattle.runnable_lang.specs.declared.program.AccessKind.TheVariants as kind
-use Rattle.interface_types.specs.declared.base_type.DataType.{DataType}
-use Rattle.interface_types.specs.declared.interface.ApplicationError.{ApplicationError}
-use Rattle.interface_types.specs.declared.interface.Argument.{Argument}
-use Rattle.interface_types.specs.declared.interface.Direction.{Direction}
-use Rattle.interface_types.specs.declared.interface.Direction.TheVariants.{In, Out}
-use Rattle.interface_types.specs.declared.interface.Interface.{Interface}
-use Rattle.interface_types.specs.declared.interface.InterfaceKind.{InterfaceKind}
-use Rattle.interface_types.specs.declared.interface.InterfaceKind.TheVariants.{ClientServer}
-use Rattle.interface_types.specs.declared.interface.Operation as declared_operation
-use Rattle.interface_types.specs.Refusals.{has_distinct_codes, is_sound, is_sound_argument}
+use Rattle.description_types.specs.declared.base_type.DataType.{DataType}
+use Rattle.description_types.specs.declared.interface.ApplicationError.{ApplicationError}
+use Rattle.description_types.specs.declared.interface.Argument.{Argument}
+use Rattle.description_types.specs.declared.interface.Direction.{Direction}
+use Rattle.description_types.specs.declared.interface.Direction.TheVariants.{In, Out}
+use Rattle.description_types.specs.declared.interface.Interface.{Interface}
+use Rattle.description_types.specs.declared.interface.InterfaceKind.{InterfaceKind}
+use Rattle.description_types.specs.declared.interface.InterfaceKind.TheVariants.{ClientServer}
+use Rattle.description_types.specs.declared.interface.Operation as declared_operation
+use Rattle.description_types.specs.Refusals.{has_distinct_codes, is_sound, is_sound_argument}
 use Rattle.description_types.specs.declared.component.Component.{Component}
 use Rattle.description_types.specs.declared.component.Port.{Port}
 use Rattle.description_types.specs.declared.component.PortKind.TheVariants.{Required}

@@ -11,12 +11,12 @@ use Rattle.description_types.specs.declared.component.PortKind.{PortKind}
 use Rattle.description_types.specs.declared.component.PortKind.TheVariants.{Provided, Required}
 use Rattle.description_types.specs.declared.description.Description.{Description}
 use Rattle.description_types.specs.declared.description.PrototypeType.TheVariants as of_type
-use Rattle.interface_types.specs.declared.interface.Interface.{Interface}
-use Rattle.interface_types.specs.declared.interface.InterfaceKind.{InterfaceKind}
-use Rattle.interface_types.specs.declared.interface.InterfaceKind.TheVariants.{ClientServer, ModeSwitch}
-use Rattle.interface_types.specs.declared.interface.ModeElement.{ModeElement}
-use Rattle.interface_types.specs.declared.interface.ModeGroup.{ModeGroup}
-use Rattle.interface_types.specs.declared.interface.Operation.{Operation}
+use Rattle.description_types.specs.declared.interface.Interface.{Interface}
+use Rattle.description_types.specs.declared.interface.InterfaceKind.{InterfaceKind}
+use Rattle.description_types.specs.declared.interface.InterfaceKind.TheVariants.{ClientServer, ModeSwitch}
+use Rattle.description_types.specs.declared.interface.ModeElement.{ModeElement}
+use Rattle.description_types.specs.declared.interface.ModeGroup.{ModeGroup}
+use Rattle.description_types.specs.declared.interface.Operation.{Operation}
 use Rattle.description_types.specs.declared.flat.End.{End}
 use Rattle.description_types.specs.declared.flat.Flat.{Flat}
 use Rattle.description_types.specs.declared.flat.Instance.{Instance}

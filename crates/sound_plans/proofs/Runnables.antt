@@ -14,9 +14,9 @@ use Rattle.runnable_lang.specs.Costs.{body_cost}
 use Rattle.runnable_lang.specs.Places.{first}
 use Rattle.runnable_lang.specs.Refusals as program
 use Rattle.runnable_lang.specs.Trees.{ProgramTree, program_tree}
-use Rattle.interface_types.specs.declared.interface.Interface.{Interface}
-use Rattle.interface_types.specs.declared.interface.Operation.{Operation}
-use Rattle.interface_types.specs.declared.interface.TypeTable.{TypeTable}
+use Rattle.description_types.specs.declared.interface.Interface.{Interface}
+use Rattle.description_types.specs.declared.interface.Operation.{Operation}
+use Rattle.description_types.specs.declared.interface.TypeTable.{TypeTable}
 use Rattle.description_types.specs.declared.component.Access.{Access}
 use Rattle.description_types.specs.declared.component.Component.{Component}
 use Rattle.description_types.specs.declared.component.Event.{Event}

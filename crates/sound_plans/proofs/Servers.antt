@@ -7,15 +7,15 @@ use Rattle.std.proofs.lemmas.Bool.{false≢true, eqb-true, eq-eqb, and_from, and
 use Rattle.std.proofs.lemmas.List.{length-map}
 use Rattle.std.proofs.lemmas.Option.{same_Some}
 use Rattle.rte_value.specs.Values.{same_number}
-use Rattle.interface_types.specs.declared.base_type.DataType.{DataType}
-use Rattle.interface_types.specs.declared.interface.ApplicationError.{ApplicationError}
-use Rattle.interface_types.specs.declared.interface.Argument.{Argument}
-use Rattle.interface_types.specs.declared.interface.ComSpec.{ComSpec}
-use Rattle.interface_types.specs.declared.interface.Interface.{Interface}
-use Rattle.interface_types.specs.declared.interface.InterfaceKind.TheVariants.{ClientServer}
-use Rattle.interface_types.specs.declared.interface.Operation.{Operation}
-use Rattle.interface_types.specs.Ranges.{keeps_range}
-use Rattle.interface_types.specs.Refusals.{is_sound, is_sound_argument, one_word, has_distinct_codes}
+use Rattle.description_types.specs.declared.base_type.DataType.{DataType}
+use Rattle.description_types.specs.declared.interface.ApplicationError.{ApplicationError}
+use Rattle.description_types.specs.declared.interface.Argument.{Argument}
+use Rattle.description_types.specs.declared.interface.ComSpec.{ComSpec}
+use Rattle.description_types.specs.declared.interface.Interface.{Interface}
+use Rattle.description_types.specs.declared.interface.InterfaceKind.TheVariants.{ClientServer}
+use Rattle.description_types.specs.declared.interface.Operation.{Operation}
+use Rattle.description_types.specs.Ranges.{keeps_range}
+use Rattle.description_types.specs.Refusals.{is_sound, is_sound_argument, one_word, has_distinct_codes}
 use Rattle.description_types.specs.declared.component.Component.{Component}
 use Rattle.description_types.specs.declared.component.Event.{Event}
 use Rattle.description_types.specs.declared.component.EventKind as declared_kind

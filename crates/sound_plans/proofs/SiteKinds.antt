@@ -1,10 +1,10 @@
 -- What the kinds of sites say.
 use Rattle.std.proofs.Common.{◌≡◌, ℕ, ◌<◌, List, Bool, true, false, Option, Some, None, refl, sym, arith, true≢false}
-use Rattle.interface_types.specs.declared.interface.DataElement.{DataElement}
-use Rattle.interface_types.specs.declared.interface.InterfaceKind.{InterfaceKind}
-use Rattle.interface_types.specs.declared.interface.InterfaceKind.TheVariants.{SenderReceiver, ClientServer, ModeSwitch}
-use Rattle.interface_types.specs.declared.interface.ModeElement.{ModeElement}
-use Rattle.interface_types.specs.declared.interface.Operation.{Operation}
+use Rattle.description_types.specs.declared.interface.DataElement.{DataElement}
+use Rattle.description_types.specs.declared.interface.InterfaceKind.{InterfaceKind}
+use Rattle.description_types.specs.declared.interface.InterfaceKind.TheVariants.{SenderReceiver, ClientServer, ModeSwitch}
+use Rattle.description_types.specs.declared.interface.ModeElement.{ModeElement}
+use Rattle.description_types.specs.declared.interface.Operation.{Operation}
 use Rattle.description_types.specs.declared.component.PortKind.{PortKind}
 use Rattle.description_types.specs.declared.component.PortKind.TheVariants.{Provided, Required}
 use Rattle.plan_definitions.specs.Keys.{is_element, is_server, is_machine, is_mode_port}

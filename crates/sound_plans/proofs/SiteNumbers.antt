@@ -3,7 +3,7 @@ use Rattle.std.proofs.Common.{◌≡◌, ℕ, zero, suc, ◌+◌, ◌<◌, Bool,
 use Rattle.std.specs.List.{slice_get}
 use Rattle.std.specs.Option.{option_map_or, unwrap_or}
 use Rattle.std.proofs.lemmas.Option.{same_Some, slice_get_within}
-use Rattle.interface_types.specs.declared.interface.TypeTable.{TypeTable}
+use Rattle.description_types.specs.declared.interface.TypeTable.{TypeTable}
 use Rattle.description_types.specs.declared.component.Component.{Component}
 use Rattle.description_types.specs.declared.component.Port.{Port}
 use Rattle.description_types.specs.declared.description.Description.{Description}

@@ -1,9 +1,9 @@
 -- Variables among the elements.
 use Rattle.std.proofs.Common.{◌≡◌, ℕ, Bool, true, false, Option, Some, None, is_none, refl}
 use Rattle.std.specs.Option.{option_map_or}
-use Rattle.interface_types.specs.declared.interface.DataElement.{DataElement}
-use Rattle.interface_types.specs.declared.interface.SwImplPolicy.{SwImplPolicy}
-use Rattle.interface_types.specs.declared.interface.SwImplPolicy.TheVariants.{Standard, Queued}
+use Rattle.description_types.specs.declared.interface.DataElement.{DataElement}
+use Rattle.description_types.specs.declared.interface.SwImplPolicy.{SwImplPolicy}
+use Rattle.description_types.specs.declared.interface.SwImplPolicy.TheVariants.{Standard, Queued}
 use Rattle.description_types.specs.declared.description.Description.{Description}
 use Rattle.description_types.specs.declared.flat.Flat.{Flat}
 use Rattle.bus_semantics.specs.declared.plan.ElemKind.{ElemKind}

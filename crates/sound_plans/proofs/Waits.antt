@@ -9,8 +9,8 @@ use Rattle.std.proofs.lemmas.Option.{same_Some}
 use Rattle.rte_value.specs.Values.{same_number}
 use Rattle.runnable_lang.specs.declared.program.AccessKind.{AccessKind}
 use Rattle.runnable_lang.specs.declared.program.AccessKind.TheVariants as kind
-use Rattle.interface_types.specs.declared.interface.Interface.{Interface}
-use Rattle.interface_types.specs.declared.interface.InterfaceKind.TheVariants.{ClientServer}
+use Rattle.description_types.specs.declared.interface.Interface.{Interface}
+use Rattle.description_types.specs.declared.interface.InterfaceKind.TheVariants.{ClientServer}
 use Rattle.description_types.specs.declared.component.Component.{Component}
 use Rattle.description_types.specs.declared.component.Event.{Event}
 use Rattle.description_types.specs.declared.component.Runnable as declared_runnable
@@ -56,9 +56,9 @@ use Rattle.sound_plans.proofs.Fits.{Needs, Finds, finds}
 
 -- an operation that a component requires
 pub record RequiredAt (d : Description) (f : Flat) (i k n : ℕ) : Type 0 where
-  pub all : List Rattle.interface_types.specs.declared.interface.Operation.Operation
+  pub all : List Rattle.description_types.specs.declared.interface.Operation.Operation
   pub is : interface_of d f (Some i) k ≡ Some (ClientServer all)
-  pub operation : Rattle.interface_types.specs.declared.interface.Operation.Operation
+  pub operation : Rattle.description_types.specs.declared.interface.Operation.Operation
   pub there : slice_get all n ≡ Some operation
 
 module _ (d : Description) (f : Flat) (p : BusPlan) (m : Mapping) (w : IsWhole d f p m) where

@@ -1,5 +1,5 @@
 use Rattle.std.proofs.Common.{◌≡◌, drop, map}
-use Rattle.interface_types.specs.Lists.{from, first}
+use Rattle.description_types.specs.Lists.{from, first}
 use Rattle.component_model.specs.Initials.{broken_of_component}
 use Rattle.component_model.specs.Programs.{component_tree}
 use Rattle.component_model.proofs.initials.first_of_components.Given as goal

@@ -1,5 +1,5 @@
 use Rattle.std.proofs.Common.{◌≡◌, drop}
-use Rattle.interface_types.specs.Lists.{from, first}
+use Rattle.description_types.specs.Lists.{from, first}
 use Rattle.component_model.specs.Initials.{broken_of_composition}
 use Rattle.component_model.proofs.initials.first_of_compositions.Given as goal
 

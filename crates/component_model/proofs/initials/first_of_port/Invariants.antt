@@ -1,7 +1,7 @@
 use Rattle.std.proofs.Common.{◌≡◌, drop}
-use Rattle.interface_types.specs.Lists.{from, first, unless}
+use Rattle.description_types.specs.Lists.{from, first, unless}
 use Rattle.component_model.specs.declared.initials.Initial.TheVariants.{OfPort}
-use Rattle.interface_types.specs.Initials.{keeps_element}
+use Rattle.description_types.specs.Initials.{keeps_element}
 use Rattle.component_model.specs.Initials.{broken_of_port}
 use Rattle.component_model.proofs.initials.first_of_port.Given as goal
 

@@ -1,6 +1,6 @@
 use Rattle.std.proofs.Common.{◌≡◌, map, take}
 use Rattle.end_search.specs.declared.interfaces.Listed.{Listed}
-use Rattle.interface_types.specs.declared.interface.Interface.{Interface}
+use Rattle.description_types.specs.declared.interface.Interface.{Interface}
 use Rattle.end_search.proofs.matches.interfaces_of.Given as goal
 
 abbrev pub invariant-loop-interface : goal.invariant-loop-interface

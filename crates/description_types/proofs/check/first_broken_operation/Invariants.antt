@@ -1,7 +1,7 @@
 use Rattle.std.proofs.Common.{◌≡◌, drop}
-use Rattle.interface_types.specs.Lists.{from, first}
-use Rattle.interface_types.specs.Refusals.{broken_among, operations_in, broken_operations}
-use Rattle.interface_types.proofs.check.first_broken_operation.Given as goal
+use Rattle.description_types.specs.Lists.{from, first}
+use Rattle.description_types.specs.Refusals.{broken_among, operations_in, broken_operations}
+use Rattle.description_types.proofs.check.first_broken_operation.Given as goal
 
 abbrev pub invariant-loop-position : goal.invariant-loop-position
 invariant-loop-position l =

@@ -1,7 +1,7 @@
 use Rattle.std.proofs.Common.{◌≡◌, drop}
-use Rattle.interface_types.specs.Lists.{from, unless, first}
-use Rattle.interface_types.specs.Refusals.{is_sound, broken_among}
-use Rattle.interface_types.proofs.check.first_broken_among.Given as goal
+use Rattle.description_types.specs.Lists.{from, unless, first}
+use Rattle.description_types.specs.Refusals.{is_sound, broken_among}
+use Rattle.description_types.proofs.check.first_broken_among.Given as goal
 
 abbrev pub invariant-loop-position : goal.invariant-loop-position
 invariant-loop-position l =

@@ -2,11 +2,11 @@
 use Rattle.std.specs.Prelude.{ℕ, ℤ, List, length, slice_get, Bool, true, false, ◌&&◌, ◌==◌, int_le, Option, Some, None, option_map, option_and_then}
 use Rattle.std.specs.List.{list_all}
 use Rattle.rte_value.specs.declared.kinds.Limits.{Limits}
-use Rattle.interface_types.specs.declared.base_type.DataType.{DataType}
-use Rattle.interface_types.specs.declared.interface.ComSpec.{ComSpec}
-use Rattle.interface_types.specs.declared.interface.InterfaceKind.{InterfaceKind}
-use Rattle.interface_types.specs.declared.interface.InterfaceKind.TheVariants.{SenderReceiver, ClientServer, ModeSwitch}
-use Rattle.interface_types.specs.declared.interface.TypeTable.{TypeTable}
+use Rattle.description_types.specs.declared.base_type.DataType.{DataType}
+use Rattle.description_types.specs.declared.interface.ComSpec.{ComSpec}
+use Rattle.description_types.specs.declared.interface.InterfaceKind.{InterfaceKind}
+use Rattle.description_types.specs.declared.interface.InterfaceKind.TheVariants.{SenderReceiver, ClientServer, ModeSwitch}
+use Rattle.description_types.specs.declared.interface.TypeTable.{TypeTable}
 
 -- a word within limits
 abbrev pub is_within : Limits → ℤ → Bool

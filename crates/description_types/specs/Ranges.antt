@@ -1,9 +1,9 @@
 -- The ranges of the base types (AUTOSAR_SWS_PlatformTypes, 'Platform types').
 use Rattle.std.specs.Prelude.{ℕ, ◌-◌, ◌^◌, pos, neg_ℤ, Bool, ◌&&◌, int_le}
 use Rattle.rte_value.specs.declared.kinds.Limits.{Limits}
-use Rattle.interface_types.specs.declared.base_type.BaseType.{BaseType}
-use Rattle.interface_types.specs.declared.base_type.BaseType.TheVariants.{Boolean, Uint8, Uint16, Uint32, Sint8, Sint16, Sint32}
-use Rattle.interface_types.specs.declared.base_type.DataType.{DataType}
+use Rattle.description_types.specs.declared.base_type.BaseType.{BaseType}
+use Rattle.description_types.specs.declared.base_type.BaseType.TheVariants.{Boolean, Uint8, Uint16, Uint32, Sint8, Sint16, Sint32}
+use Rattle.description_types.specs.declared.base_type.DataType.{DataType}
 
 -- the words without a sign that so many bits hold, and those with one
 abbrev pub unsigned : (bits : ℕ) → Limits

@@ -1,7 +1,7 @@
 use Rattle.std.proofs.Common.{◌≡◌, ◌&&◌, drop, length}
-use Rattle.interface_types.specs.Refusals.{has_distinct_codes}
-use Rattle.interface_types.proofs.Codes.{are_new}
-use Rattle.interface_types.proofs.check.has_distinct_codes.Given as goal
+use Rattle.description_types.specs.Refusals.{has_distinct_codes}
+use Rattle.description_types.proofs.Codes.{are_new}
+use Rattle.description_types.proofs.check.has_distinct_codes.Given as goal
 
 abbrev pub invariant-loop-error : goal.invariant-loop-error
 invariant-loop-error l = record {

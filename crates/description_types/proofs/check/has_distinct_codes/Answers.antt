@@ -1,7 +1,7 @@
 use Rattle.std.proofs.Common.{refl, arith, rules}
 use Rattle.std.proofs.lemmas.Grind.{common_steps}
-use Rattle.interface_types.proofs.Codes.{none_seen, codes_turn}
-use Rattle.interface_types.proofs.check.has_distinct_codes.Goals as goal
+use Rattle.description_types.proofs.Codes.{none_seen, codes_turn}
+use Rattle.description_types.proofs.check.has_distinct_codes.Goals as goal
 
 pub loop-error-init : goal.loop-error-init
 loop-error-init c = record { every_code = refl; is_left = grind (arith, none_seen 256 c.args.errors.now) }

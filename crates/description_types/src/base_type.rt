@@ -1,7 +1,7 @@
 //! Base types and data types.
 
 ghost use Rattle.std.specs.Prelude.{◌≡◌};
-ghost use Rattle.interface_types.specs.Ranges.{range_of, keeps_range};
+ghost use Rattle.description_types.specs.Ranges.{range_of, keeps_range};
 
 use rte_value::Limits;
 

@@ -5,8 +5,8 @@ use Rattle.std.proofs.Math.ListN.{set}
 use Rattle.std.proofs.lemmas.List.{at_drop_more, get_or-set_same, get_or-set_other}
 use Rattle.std.proofs.lemmas.Bool.{cases_eq}
 use Rattle.std.proofs.lemmas.Bool.Decides.{nat_tests}
-use Rattle.interface_types.specs.declared.interface.ApplicationError.{ApplicationError}
-use Rattle.interface_types.specs.Refusals.{has_distinct_codes}
+use Rattle.description_types.specs.declared.interface.ApplicationError.{ApplicationError}
+use Rattle.description_types.specs.Refusals.{has_distinct_codes}
 
 -- no code of the errors is marked
 abbrev pub are_new : List Bool → List ApplicationError → Bool

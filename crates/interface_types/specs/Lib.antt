@@ -1,4 +1,0 @@
-pub mod Ranges
-pub mod Lists
-pub mod Refusals
-pub mod Initials
