@@ -10,7 +10,7 @@ use Rattle.std.proofs.lemmas.Option.{slice_get-map, slice_get_within, get_or_fro
 use Rattle.circular_buffer.specs.Buffer.{buffer, keep_last}
 use Rattle.rte_value.specs.declared.value.Value.{Value}
 use Rattle.rte_value.specs.ShortValues.{empty_value, one_word}
-use Rattle.block_pool.specs.Kept as pool
+use Rattle.queued_ports.specs.KeptBlocks as pool
 use Rattle.queued_ports.specs.declared.lanes.Lane.{Lane}
 use Rattle.queued_ports.specs.declared.payload.Payload.{Payload}
 use Rattle.queued_ports.specs.declared.payload.Payload.TheVariants.{One, Many}

@@ -9,7 +9,7 @@ use Rattle.std.proofs.lemmas.List.Sums.{sum_by-cons, count_by-le-length, get_or-
 use Rattle.std.proofs.lemmas.Option.{same_Some, slice_get_within, get_or_from_slice_get}
 use Rattle.rte_value.specs.declared.value.Value.{Value}
 use Rattle.rte_value.specs.ShortValues.{empty_value}
-use Rattle.block_pool.specs.Kept as pool
+use Rattle.queued_ports.specs.KeptBlocks as pool
 use Rattle.queued_ports.specs.declared.lanes.Lane.{Lane}
 use Rattle.queued_ports.specs.declared.payload.Payload.{Payload}
 use Rattle.queued_ports.specs.declared.payload.Payload.TheVariants.{One, Many}

@@ -4,3 +4,4 @@ pub mod Counts
 pub mod Made
 pub mod Sending
 pub mod Taking
+pub mod Free

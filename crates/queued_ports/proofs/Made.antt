@@ -6,7 +6,7 @@ use Rattle.std.proofs.lemmas.List.Sums.{sum_by-cons}
 use Rattle.std.proofs.lemmas.List.Elements.{All-map}
 use Rattle.rte_value.specs.declared.value.Value.{Value}
 use Rattle.rte_value.specs.ShortValues.{empty_value}
-use Rattle.block_pool.specs.Kept as pool
+use Rattle.queued_ports.specs.KeptBlocks as pool
 use Rattle.latches.specs.Latches.{Latch, clear_in}
 use Rattle.queued_ports.specs.declared.lanes.Lane.{Lane}
 use Rattle.queued_ports.specs.Kept.{empty_queue}

@@ -9,7 +9,7 @@ use Rattle.std.proofs.lemmas.Option.{same_Some, slice_get_within, get_or_from_sl
 use Rattle.circular_buffer.specs.Buffer.{buffer}
 use Rattle.rte_value.specs.declared.value.Value.{Value}
 use Rattle.rte_value.specs.ShortValues.{empty_value}
-use Rattle.block_pool.specs.Kept as pool
+use Rattle.queued_ports.specs.KeptBlocks as pool
 use Rattle.queued_ports.specs.declared.lanes.Lane.{Lane}
 use Rattle.queued_ports.specs.declared.payload.Payload.{Payload}
 use Rattle.queued_ports.specs.declared.payload.Payload.TheVariants.{One, Many}

@@ -4,7 +4,7 @@ use Rattle.std.specs.List.{All, count_by, sum_by, range_with_len}
 use Rattle.circular_buffer.specs.Buffer.{buffer}
 use Rattle.rte_value.specs.declared.value.Value.{Value}
 use Rattle.rte_value.specs.ShortValues.{empty_value, one_word}
-use Rattle.block_pool.specs.Kept as pool
+use Rattle.queued_ports.specs.KeptBlocks as pool
 use Rattle.queued_ports.specs.declared.payload.Payload.{Payload}
 use Rattle.queued_ports.specs.declared.payload.Payload.TheVariants.{One, Many}
 use Rattle.queued_ports.specs.declared.lanes.Lane.{Lane}

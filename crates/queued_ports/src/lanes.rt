@@ -7,8 +7,8 @@ ghost use Rattle.queued_ports.specs.Kept.{Queue, after_arrival, after_taking, em
 
 use crate::Memory;
 use crate::payload::Payload;
+use crate::pool::Pool;
 use crate::received::{LOST_DATA, NO_DATA, OK, Received};
-use block_pool::Pool;
 use circular_buffer::HeapCircularBuffer;
 use rte_value::Value;
 use std::alloc::Global;

@@ -1,4 +1,5 @@
-//! Queued data elements: a queue for each receiver.
+//! Queued data elements: a queue for each receiver, and a pool of blocks for values of more than one word. No call takes memory once these
+//! are made.
 //!
 //! # Decisions
 //!
@@ -7,12 +8,17 @@
 //! finds one.
 #![tactic(auto)]
 
+mod block;
+mod block_threads;
 mod lanes;
 mod payload;
+mod pool;
 mod queues;
 mod received;
 mod threads;
 
+pub use block::Block;
+pub use pool::Pool;
 pub use queues::Queues;
 pub use received::Received;
 

@@ -5,7 +5,8 @@ ghost use Rattle.rte_value.specs.Values.{words_of};
 ghost use Rattle.queued_ports.specs.Packed.{IsPacked, IsThere, after_unpacking};
 ghost use Rattle.queued_ports.specs.Laid.{value_of};
 
-use block_pool::{Block, Pool};
+use crate::block::Block;
+use crate::pool::Pool;
 use rte_value::{Value, Word};
 
 /// A value of one word, or the block of a longer one.

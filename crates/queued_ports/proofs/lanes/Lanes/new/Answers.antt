@@ -1,5 +1,5 @@
 use Rattle.std.proofs.Common.{sym, ◌∙◌, ap, subst, map}
-use Rattle.block_pool.specs.Kept as pool
+use Rattle.queued_ports.specs.KeptBlocks as pool
 use Rattle.queued_ports.specs.Laid.{AreLaid, queue_of}
 use Rattle.queued_ports.proofs.Made.{empty_queues, made_laid}
 use Rattle.queued_ports.proofs.lanes.Lanes.new.Goals as goal

@@ -4,7 +4,7 @@ use Rattle.std.proofs.lemmas.List.{length-map}
 use Rattle.std.proofs.lemmas.Option.{same_Some, slice_get_read}
 use Rattle.rte_value.specs.EqualValues.{Value-by_words}
 use Rattle.rte_value.specs.ShortValues.{empty_value}
-use Rattle.block_pool.specs.Kept as pool
+use Rattle.queued_ports.specs.KeptBlocks as pool
 use Rattle.queued_ports.specs.Kept.{after_taking, received_of}
 use Rattle.queued_ports.specs.Laid.{AreLaid, Stored, queue_of, value_of}
 use Rattle.queued_ports.proofs.Arriving.{seen_at}

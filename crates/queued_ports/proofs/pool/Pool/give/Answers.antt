@@ -1,8 +1,8 @@
 use Rattle.std.proofs.Common.{◌≡◌, ◌<◌, ◌==◌, ◌++◌, ◌∷◌, [], ◌∙◌, ap, length, false, arith}
 use Rattle.std.specs.List.{list_any}
-use Rattle.block_pool.proofs.Free.{has_room, one_given}
-use Rattle.block_pool.specs.Kept.{Kept}
-use Rattle.block_pool.proofs.pool.Pool.give.Goals as goal
+use Rattle.queued_ports.proofs.Free.{has_room, one_given}
+use Rattle.queued_ports.specs.KeptBlocks.{Kept}
+use Rattle.queued_ports.proofs.pool.Pool.give.Goals as goal
 
 pub push_reserved-requires : goal.push_reserved-requires
 push_reserved-requires c =

@@ -1,8 +1,8 @@
 use Rattle.std.proofs.Common.{ℕ, Option, Some, sym, ◌∙◌, ap, subst, IfSome}
-use Rattle.block_pool.proofs.Free.{one_taken, last_taken}
-use Rattle.block_pool.specs.Kept.{Kept, IsTaken}
-use Rattle.block_pool.proofs.pool.Pool.take.Goals as goal
-use Rattle.block_pool.proofs.pool.Pool.take.Goals.{in-Some, in-None}
+use Rattle.queued_ports.proofs.Free.{one_taken, last_taken}
+use Rattle.queued_ports.specs.KeptBlocks.{Kept, IsTaken}
+use Rattle.queued_ports.proofs.pool.Pool.take.Goals as goal
+use Rattle.queued_ports.proofs.pool.Pool.take.Goals.{in-Some, in-None}
 
 pub invariant_of-self : goal.invariant_of-self
 invariant_of-self c = one_taken c.self.inside.values.items c.self.inside.free c.pop.new.self c.pop.result c.pop.ensures.items c.pop.ensures.capacity c.self.invariant

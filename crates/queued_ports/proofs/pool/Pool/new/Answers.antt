@@ -2,8 +2,8 @@ use Rattle.std.proofs.Common.{◌≡◌, ◌++◌, ◌∷◌, [], ◌∙◌, ap,
 use Rattle.std.specs.List.{range_with_len}
 use Rattle.std.proofs.lemmas.List.{length-replicate}
 use Rattle.std.proofs.lemmas.List.FromFn.{length-range_with_len}
-use Rattle.block_pool.proofs.Free.{all_free, all_empty, range_more}
-use Rattle.block_pool.proofs.pool.Pool.new.Goals as goal
+use Rattle.queued_ports.proofs.Free.{all_free, all_empty, range_more}
+use Rattle.queued_ports.proofs.pool.Pool.new.Goals as goal
 
 pub push_reserved-requires : goal.push_reserved-requires
 push_reserved-requires c =

@@ -15,8 +15,8 @@ use Rattle.rte_value.specs.declared.value.Value.{Value}
 use Rattle.rte_value.specs.EqualValues.{Value-by_words}
 use Rattle.rte_value.specs.ShortValues.{empty_value}
 use Rattle.rte_value.specs.Values.{words_of}
-use Rattle.block_pool.specs.Free.{AreFree}
-use Rattle.block_pool.specs.Kept.{IsTaken}
+use Rattle.queued_ports.specs.Free.{AreFree}
+use Rattle.queued_ports.specs.KeptBlocks.{IsTaken}
 
 -- ---- a block is taken
 

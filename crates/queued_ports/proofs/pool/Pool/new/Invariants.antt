@@ -1,7 +1,7 @@
 use Rattle.std.proofs.Common.{◌≡◌}
 use Rattle.std.specs.List.{range_with_len}
 use Rattle.std.specs.Vec.{vec_capacity}
-use Rattle.block_pool.proofs.pool.Pool.new.Given as goal
+use Rattle.queued_ports.proofs.pool.Pool.new.Given as goal
 
 abbrev pub invariant-loop-block : goal.invariant-loop-block
 invariant-loop-block l = record {

@@ -2,7 +2,7 @@
 
 ghost use Rattle.std.specs.Prelude.{◌≡◌, ◌<◌, ◌++◌, ◌↔◌, IfOk, IfSome, IsSome, Some, length};
 ghost use Rattle.std.specs.Option.{option_to_list};
-ghost use Rattle.block_pool.specs.Kept.{IsTaken, after_give, after_store, fresh, value_in};
+ghost use Rattle.queued_ports.specs.KeptBlocks.{IsTaken, after_give, after_store, fresh, value_in};
 
 use crate::Memory;
 use crate::block::Block;
@@ -20,8 +20,8 @@ pub struct Pool {
 }
 
 impl Model for Pool {
-    ghost use Rattle.block_pool.specs.Kept.{Kept};
-    ghost use Rattle.block_pool.specs.Free.{AreFree};
+    ghost use Rattle.queued_ports.specs.KeptBlocks.{Kept};
+    ghost use Rattle.queued_ports.specs.Free.{AreFree};
 
     ghost Value = { Kept };
 
