@@ -24,7 +24,7 @@ use Rattle.data_objects.specs.Kept.{GroupState}
 use Rattle.data_objects.specs.Leading as group_leading
 use Rattle.data_objects.specs.Leading.{group_lead}
 use Rattle.data_objects.specs.Plans.{IsGroupOfPlan}
-use Rattle.explicit_ports.specs.Kept.{after_write}
+use Rattle.data_objects.specs.KeptValues.{after_write}
 use Rattle.bundle_objects.specs.Acting.{IsPartActed, Adds}
 use Rattle.bundle_objects.specs.Kept.{Kept, BundleState, clear_in}
 use Rattle.bundle_objects.specs.Leading.{with_part, after_publication, store_at}

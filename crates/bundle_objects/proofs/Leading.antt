@@ -32,7 +32,7 @@ use Rattle.object_kinds.proofs.Options.{number_is, is_number, given_some, then_s
 use Rattle.object_kinds.proofs.Placing.{place_at}
 use Rattle.object_kinds.proofs.Proper.{noting, admitted}
 use Rattle.object_kinds.proofs.Touching.{OnGroup}
-use Rattle.explicit_ports.specs.Kept as data_kept
+use Rattle.data_objects.specs.KeptValues as data_kept
 use Rattle.data_objects.specs.Kept as groups
 use Rattle.data_objects.specs.Leading.{group_lead, value_in}
 use Rattle.data_objects.specs.Standing.{GroupKeeps}

@@ -19,7 +19,7 @@ use Rattle.bus_semantics.specs.Objects.{object_of}
 use Rattle.bus_semantics.specs.Fitting.{answer_fits, start_fits}
 use Rattle.bus_semantics.specs.Legal.{same_bool}
 use Rattle.bus_semantics.specs.Asked.{event_of}
-use Rattle.explicit_ports.specs.Kept as data_kept
+use Rattle.data_objects.specs.KeptValues as data_kept
 use Rattle.object_kinds.specs.declared.acted.Acted.{Acted}
 use Rattle.object_kinds.specs.declared.acted.Acted.TheVariants.{Done, NotYet}
 use Rattle.object_kinds.specs.declared.acted.Shown.{Shown}

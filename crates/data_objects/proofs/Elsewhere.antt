@@ -17,7 +17,7 @@ use Rattle.bus_semantics.specs.History.{Noted, Past, newest}
 use Rattle.bus_semantics.specs.Unqueued.{is_in_group, listed_in, stored_in, last_stored, validity, update}
 use Rattle.bus_semantics.specs.Queued.{sent_in}
 use Rattle.bus_semantics.specs.Owed.{is_start_by}
-use Rattle.explicit_ports.specs.Kept.{after_write}
+use Rattle.data_objects.specs.KeptValues.{after_write}
 use Rattle.object_kinds.specs.Layout.{waits_for_data}
 use Rattle.object_kinds.proofs.Options.{number_is}
 use Rattle.object_kinds.proofs.Proper.{noting}

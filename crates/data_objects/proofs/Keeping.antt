@@ -26,8 +26,8 @@ use Rattle.bus_semantics.specs.Owed.{is_start_by}
 use Rattle.bus_semantics.specs.Due.{follows_last, brings_data, is_due_kind}
 use Rattle.bus_semantics.specs.Legal.{same_bool}
 use Rattle.bus_semantics.specs.SoundPlan.{is_distinct}
-use Rattle.explicit_ports.specs.Kept as data_kept
-use Rattle.explicit_ports.specs.Kept.{after_write, after_invalidation, after_read, after_start}
+use Rattle.data_objects.specs.KeptValues as data_kept
+use Rattle.data_objects.specs.KeptValues.{after_write, after_invalidation, after_read, after_start}
 use Rattle.object_kinds.specs.Layout.{members_of, events_of, waits_for_data, place}
 use Rattle.object_kinds.proofs.Events.{waiting_for, events_all, events_once}
 use Rattle.object_kinds.proofs.Lists.{map_all, filled_all, mapped_at, all_at}

@@ -16,8 +16,8 @@ use Rattle.bus_semantics.specs.Due.{is_due, is_due_kind}
 use Rattle.bus_semantics.specs.Matching.{start_matches, matches}
 use Rattle.bus_semantics.specs.Legal.{Answers}
 use Rattle.bus_semantics.specs.Locality.{is_proper}
-use Rattle.explicit_ports.specs.Kept as data_kept
-use Rattle.explicit_ports.specs.Kept.{after_write, after_invalidation, after_read, after_start}
+use Rattle.data_objects.specs.KeptValues as data_kept
+use Rattle.data_objects.specs.KeptValues.{after_write, after_invalidation, after_read, after_start}
 use Rattle.object_kinds.specs.Kinds.{LeadsFollow, LeadsKeep}
 use Rattle.object_kinds.specs.Layout.{group_at, IsAlone, members_of, waits_for_data, place}
 use Rattle.object_kinds.specs.Flags.{given, is_set}

@@ -7,3 +7,4 @@ pub mod Starting
 pub mod Staying
 mod Telling
 mod Acting
+pub mod OneGroup

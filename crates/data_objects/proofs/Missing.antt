@@ -16,7 +16,7 @@ use Rattle.bus_semantics.specs.Due.{is_due, is_due_kind}
 use Rattle.bus_semantics.specs.Legal.{same_bool, Answers}
 use Rattle.bus_semantics.specs.Locality.{is_proper}
 use Rattle.bus_semantics.specs.Sound.{IsSound}
-use Rattle.explicit_ports.specs.Kept as data_kept
+use Rattle.data_objects.specs.KeptValues as data_kept
 use Rattle.object_kinds.specs.Kinds.{MissesNothing}
 use Rattle.object_kinds.specs.Layout.{group_at, members_of, waits_for_data, place}
 use Rattle.object_kinds.specs.Flags.{given, is_set}

@@ -6,7 +6,7 @@ use Rattle.bus_semantics.specs.declared.entries.Deed.{Deed}
 use Rattle.bus_semantics.specs.declared.entries.Deed.TheVariants as deed
 use Rattle.bus_semantics.specs.Plan.{Plan}
 use Rattle.bus_semantics.specs.Wanted.{to_start, wanted_by}
-use Rattle.explicit_ports.specs.Kept as data_kept
+use Rattle.data_objects.specs.KeptValues as data_kept
 use Rattle.object_kinds.specs.Kinds.{StartsByFlag, OthersWakeNothing}
 use Rattle.object_kinds.specs.Layout.{group_at, place, members_of}
 use Rattle.object_kinds.specs.Flags.{given, is_set, is_pending}

@@ -4,8 +4,8 @@ use Rattle.std.specs.List.{Contains, slice_get}
 use Rattle.std.proofs.lemmas.Bool.{false≢true}
 use Rattle.rte_value.specs.declared.value.Value.{Value}
 use Rattle.bus_semantics.specs.declared.entries.Deed.{Deed}
-use Rattle.explicit_ports.specs.Flags.{IsOfClear}
-use Rattle.explicit_ports.specs.Kept as data_kept
+use Rattle.data_objects.specs.Flags.{IsOfClear}
+use Rattle.data_objects.specs.KeptValues as data_kept
 use Rattle.object_kinds.specs.Layout.{place}
 use Rattle.object_kinds.specs.Flags.{is_set, is_pending}
 use Rattle.object_kinds.specs.Rising.{is_rising}

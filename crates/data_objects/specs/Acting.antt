@@ -9,7 +9,7 @@ use Rattle.bus_semantics.specs.declared.entries.Deed.TheVariants as deed
 use Rattle.bus_semantics.specs.declared.entries.Entry.{Entry}
 use Rattle.bus_semantics.specs.Plan.{Plan, group_of}
 use Rattle.bus_semantics.specs.Wanted.{Wanted, to_read, to_fetch, to_see_updated, wanted_by}
-use Rattle.explicit_ports.specs.Kept as data_kept
+use Rattle.data_objects.specs.KeptValues as data_kept
 use Rattle.object_kinds.specs.declared.acted.Acted.{Acted}
 use Rattle.object_kinds.specs.declared.acted.Acted.TheVariants.{Done, NotYet}
 use Rattle.object_kinds.specs.declared.acted.Shown.{Shown}

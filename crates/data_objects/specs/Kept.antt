@@ -1,6 +1,6 @@
 -- What a group of unqueued data elements keeps, as plain data.
 use Rattle.std.specs.Prelude.{ℕ, List, map, Bool}
-use Rattle.explicit_ports.specs.Kept as ports
+use Rattle.data_objects.specs.KeptValues as ports
 use Rattle.bus_semantics.specs.Plan.{Plan}
 use Rattle.object_kinds.specs.Layout.{members_of, events_of, waits_for_data, place}
 use Rattle.object_kinds.specs.Flags.{is_pending}

@@ -12,7 +12,7 @@ use Rattle.bus_semantics.specs.Plan.{Plan, look}
 use Rattle.bus_semantics.specs.History.{Noted}
 use Rattle.bus_semantics.specs.Legal.{same_bool}
 use Rattle.bus_semantics.specs.Wanted.{Wanted, to_start}
-use Rattle.explicit_ports.specs.Kept as data_kept
+use Rattle.data_objects.specs.KeptValues as data_kept
 use Rattle.object_kinds.specs.declared.acted.Shown.{Shown}
 use Rattle.object_kinds.specs.declared.acted.Shown.TheVariants.{NotDue, Unmatched}
 use Rattle.object_kinds.specs.Layout.{group_at, members_of, place}

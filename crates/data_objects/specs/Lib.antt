@@ -4,3 +4,5 @@ pub mod Plans
 pub mod Leading
 pub mod Standing
 pub mod Acting
+pub mod Flags
+pub mod KeptValues

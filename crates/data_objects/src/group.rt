@@ -13,14 +13,14 @@ ghost use Rattle.object_kinds.specs.declared.acted.Shown.{Shown};
 ghost use Rattle.object_kinds.specs.declared.acted.Acted.TheVariants.{Done, NotYet};
 ghost use Rattle.object_kinds.specs.Layout.{place, members_of};
 ghost use Rattle.object_kinds.specs.Kinds.{IsAnswerOf};
-ghost use Rattle.explicit_ports.specs.Kept.{after_write};
+ghost use Rattle.data_objects.specs.KeptValues.{after_write};
 ghost use Rattle.data_objects.specs.Acting.{IsActed, IsTaken, IsWishIn, group_seen, started_at};
 ghost use Rattle.data_objects.specs.Kept.{may_start};
 ghost use Rattle.data_objects.specs.Leading.{group_lead, lead, why_held, read_code_by, value_in, wakes};
 ghost use Rattle.data_objects.specs.Plans.{IsGroupOfPlan, IsOfPlan};
 
+use crate::unqueued::{ReadState, Unqueued};
 use bus_semantics::{Actor, BusPlan, Deed, ElemKind, ElemPlan, Entry, Wish};
-use explicit_ports::{ReadState, Unqueued};
 use object_kinds::{Acted, Shown, find};
 use rte_value::{Code, Value};
 use std::marker::Model;

@@ -11,8 +11,8 @@ ghost use Rattle.data_objects.specs.Plans.{IsGroupOfPlan};
 use crate::Memory;
 use crate::events::element_at;
 use crate::group::{Group, receiver};
+use crate::unqueued::Unqueued;
 use bus_semantics::BusPlan;
-use explicit_ports::Unqueued;
 use rte_value::Value;
 use std::alloc::Global;
 

@@ -2,7 +2,7 @@ use Rattle.std.proofs.Common.{◌≡◌, ◌≤◌, true, sym, ◌∙◌, ap, su
 use Rattle.std.specs.Vec.{vec_capacity}
 use Rattle.std.proofs.lemmas.List.{length-map}
 use Rattle.bus_semantics.specs.Plan.{plan_of}
-use Rattle.explicit_ports.specs.Kept.{Kept}
+use Rattle.data_objects.specs.KeptValues.{Kept}
 use Rattle.object_kinds.specs.Layout.{waits_for_data}
 use Rattle.object_kinds.specs.Rising.{is_rising}
 use Rattle.object_kinds.proofs.Events.{events_rise}

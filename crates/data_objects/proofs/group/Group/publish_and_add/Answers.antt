@@ -1,6 +1,6 @@
 use Rattle.std.proofs.Common.{◌≡◌, ◌⊎◌, ℕ, true, false, subst, inl, inr}
 use Rattle.std.specs.List.{Contains}
-use Rattle.explicit_ports.specs.Flags.{IsOfClear}
+use Rattle.data_objects.specs.Flags.{IsOfClear}
 use Rattle.data_objects.specs.Kept.{GroupState, may_start}
 use Rattle.data_objects.proofs.Telling.{state, came, made}
 use Rattle.data_objects.proofs.group.Group.publish_and_add.Goals as goal

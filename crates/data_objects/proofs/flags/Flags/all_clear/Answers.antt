@@ -2,9 +2,9 @@ use Rattle.std.proofs.Common.{◌≡◌, ◌∙◌, ap, sym, subst, refl, map, r
 use Rattle.std.proofs.lemmas.List.{length-replicate}
 use Rattle.std.proofs.lemmas.List.Elements.{All-map, All-replicate}
 use Rattle.latches.specs.Latches.{Latch, clear_in}
-use Rattle.explicit_ports.specs.Flags.{are_set, AreOneGroup}
-use Rattle.explicit_ports.proofs.OneGroup.{none_set}
-use Rattle.explicit_ports.proofs.flags.Flags.all_clear.Goals as goal
+use Rattle.data_objects.specs.Flags.{are_set, AreOneGroup}
+use Rattle.data_objects.proofs.OneGroup.{none_set}
+use Rattle.data_objects.proofs.flags.Flags.all_clear.Goals as goal
 
 pub invariant_of-result : goal.invariant_of-result
 invariant_of-result c =

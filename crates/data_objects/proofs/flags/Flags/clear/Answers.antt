@@ -3,8 +3,8 @@ use Rattle.std.proofs.lemmas.List.{length-map, map-set}
 use Rattle.std.proofs.lemmas.List.Elements.{All-set, All-get_or}
 use Rattle.std.proofs.lemmas.Option.{slice_get-get_or}
 use Rattle.latches.specs.Latches.{Latch, clear_in}
-use Rattle.explicit_ports.specs.Flags.{are_set, AreOneGroup}
-use Rattle.explicit_ports.proofs.flags.Flags.clear.Goals as goal
+use Rattle.data_objects.specs.Flags.{are_set, AreOneGroup}
+use Rattle.data_objects.proofs.flags.Flags.clear.Goals as goal
 
 pub invariant_of-self : goal.invariant_of-self
 invariant_of-self c =

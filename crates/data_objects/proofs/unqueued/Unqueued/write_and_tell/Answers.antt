@@ -1,7 +1,7 @@
 use Rattle.std.proofs.Common.{not, arith, length, ap}
 use Rattle.std.proofs.lemmas.List.Sums.{count_by-le-length}
-use Rattle.explicit_ports.specs.Kept.{Kept}
-use Rattle.explicit_ports.proofs.unqueued.Unqueued.write_and_tell.Goals as goal
+use Rattle.data_objects.specs.KeptValues.{Kept}
+use Rattle.data_objects.proofs.unqueued.Unqueued.write_and_tell.Goals as goal
 
 pub set_and_tell-requires-clause-room : goal.set_and_tell-requires-clause-room
 set_and_tell-requires-clause-room c =

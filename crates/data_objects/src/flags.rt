@@ -3,7 +3,7 @@
 ghost use Rattle.std.specs.Prelude.{◌≡◌, ◌<◌, ◌≤◌, ◌+◌, ◌⊎◌, ℕ, IfOk, Some, count_by, false, length, not, replicate, set, slice_get, true};
 ghost use Rattle.std.specs.List.{Contains};
 ghost use Rattle.std.specs.Vec.{vec_capacity};
-ghost use Rattle.explicit_ports.specs.Flags.{IsOfClear};
+ghost use Rattle.data_objects.specs.Flags.{IsOfClear};
 
 use crate::Memory;
 use latches::Latches;
@@ -22,7 +22,7 @@ pub(crate) struct Flags {
 
 impl Model for Flags {
     ghost use Rattle.std.specs.Prelude.{List, Bool};
-    ghost use Rattle.explicit_ports.specs.Flags.{AreOneGroup, are_set};
+    ghost use Rattle.data_objects.specs.Flags.{AreOneGroup, are_set};
 
     ghost Value = { List Bool };
 

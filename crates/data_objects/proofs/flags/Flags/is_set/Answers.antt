@@ -3,8 +3,8 @@ use Rattle.std.specs.List.{slice_get}
 use Rattle.std.proofs.lemmas.List.{length-map}
 use Rattle.std.proofs.lemmas.Option.{slice_get-get_or}
 use Rattle.latches.specs.Latches.{Latch, clear_in}
-use Rattle.explicit_ports.proofs.OneGroup.{read_set}
-use Rattle.explicit_ports.proofs.flags.Flags.is_set.Goals as goal
+use Rattle.data_objects.proofs.OneGroup.{read_set}
+use Rattle.data_objects.proofs.flags.Flags.is_set.Goals as goal
 
 pub returns : goal.returns
 returns c =

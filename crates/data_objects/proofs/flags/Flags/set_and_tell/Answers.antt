@@ -3,9 +3,9 @@ use Rattle.std.specs.List.{slice_get, Contains}
 use Rattle.std.proofs.lemmas.List.Elements.{All-map, All-get_or}
 use Rattle.std.proofs.lemmas.Option.{slice_get_within, get_or_from_slice_get}
 use Rattle.latches.specs.Latches.{Latch, after_set, IsNamedIn}
-use Rattle.explicit_ports.specs.Flags.{are_set, AreOneGroup, IsOfClear}
-use Rattle.explicit_ports.proofs.OneGroup.{all_set, behind, told_of, clear_counted}
-use Rattle.explicit_ports.proofs.flags.Flags.set_and_tell.Goals as goal
+use Rattle.data_objects.specs.Flags.{are_set, AreOneGroup, IsOfClear}
+use Rattle.data_objects.proofs.OneGroup.{all_set, behind, told_of, clear_counted}
+use Rattle.data_objects.proofs.flags.Flags.set_and_tell.Goals as goal
 
 pub invariant_of-self : goal.invariant_of-self
 invariant_of-self c = subst AreOneGroup (sym c.set_and_tell.ensures.set) (All-map (λ (l : Latch). l.group ≡ 0) (after_set 0) c.self.inside.latches c.self.invariant)

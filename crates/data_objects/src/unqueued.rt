@@ -3,8 +3,8 @@
 ghost use Rattle.std.specs.Prelude.{◌≡◌, ◌<◌, ◌≤◌, ◌+◌, ◌⊎◌, ℕ, count_by, false, length, not, IfOk, slice_get, Some, is_some};
 ghost use Rattle.std.specs.List.{Contains};
 ghost use Rattle.std.specs.Vec.{vec_capacity};
-ghost use Rattle.explicit_ports.specs.Flags.{IsOfClear};
-ghost use Rattle.explicit_ports.specs.Kept.{fresh, after_write, after_invalidation, after_read, after_start, value_for};
+ghost use Rattle.data_objects.specs.Flags.{IsOfClear};
+ghost use Rattle.data_objects.specs.KeptValues.{fresh, after_write, after_invalidation, after_read, after_start, value_for};
 
 use crate::Memory;
 use crate::flags::Flags;
@@ -28,7 +28,7 @@ pub struct Unqueued {
 
 impl Model for Unqueued {
     ghost use Rattle.std.specs.Prelude.{◌≡◌, length};
-    ghost use Rattle.explicit_ports.specs.Kept.{Kept};
+    ghost use Rattle.data_objects.specs.KeptValues.{Kept};
 
     ghost Value = { Kept };
 

@@ -8,7 +8,7 @@ use Rattle.std.proofs.lemmas.List.Elements.{All-head, All-tail}
 use Rattle.std.proofs.lemmas.List.Sums.{sum_by-cons}
 use Rattle.std.proofs.lemmas.Option.{slice_get-get_or, slice_get-map}
 use Rattle.latches.specs.Latches.{Latch, clear_in, is_clear, after_set, IsNamedIn}
-use Rattle.explicit_ports.specs.Flags.{are_set, AreOneGroup, IsOfClear}
+use Rattle.data_objects.specs.Flags.{are_set, AreOneGroup, IsOfClear}
 
 pub all_set : (ls : List Latch) → AreOneGroup ls → are_set (map (after_set 0) ls) ≡ replicate (length (are_set ls)) true
 all_set [] one = refl
