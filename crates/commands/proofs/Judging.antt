@@ -11,8 +11,8 @@ use Rattle.description_stages.specs.declared.planning.PlannedDescription.{Planne
 use Rattle.description_stages.specs.Plans.{IsPlanRefusalOf, IsPlannedOf}
 use Rattle.plan_text.specs.Lines.{plan_text}
 use Rattle.script_reading.specs.Meaning.{Saying, saying}
-use Rattle.feed_reading.specs.Reading.{has_stopped}
-use Rattle.feed_reading.specs.Reading.{cause_of as cause_of_stimulus, first_bad as first_bad_stimulus}
+use Rattle.feed_queue.specs.Reading.{has_stopped}
+use Rattle.feed_queue.specs.Reading.{cause_of as cause_of_stimulus, first_bad as first_bad_stimulus}
 use Rattle.script_reading.specs.Meaning.{no_form}
 use Rattle.script_reading.specs.Reading.{bad_or, cause_of, first_bad}
 use Rattle.line_fields.specs.Texts.{lines_of, onto_first}

@@ -12,7 +12,7 @@ use Rattle.check_definitions.specs.Verdicts.{IsVerdict}
 use Rattle.check_definitions.specs.Laws.{TracesHaveOneVerdict}
 use Rattle.description_stages.specs.declared.planning.PlannedDescription.{PlannedDescription}
 use Rattle.description_stages.specs.Plans.{IsPlannedOf, IsPlanRefusalOf}
-use Rattle.feed_reading.specs.Reading.{first_bad as bad_stimulus}
+use Rattle.feed_queue.specs.Reading.{first_bad as bad_stimulus}
 use Rattle.line_fields.specs.Texts.{lines_of}
 use Rattle.pair_run.specs.Linked.{links_of}
 use Rattle.plan_laws.specs.Same.{IsSamePlan}

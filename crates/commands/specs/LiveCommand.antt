@@ -13,8 +13,8 @@ use Rattle.bus_semantics.specs.Run.{Session, IsSessionOf, IsBeginningOf}
 use Rattle.core_lanes.specs.After.{after}
 use Rattle.description_stages.specs.declared.planning.PlannedDescription.{PlannedDescription}
 use Rattle.description_stages.specs.Plans.{IsPlanRefusalOf, IsPlannedOf}
-use Rattle.feed_reading.specs.declared.feeds.Feeds.{Feeds}
-use Rattle.feed_reading.specs.Reading.{AreFeeds, first_bad}
+use Rattle.feed_queue.specs.declared.feeds.Feeds.{Feeds}
+use Rattle.feed_queue.specs.Reading.{AreFeeds, first_bad}
 use Rattle.line_fields.specs.Texts.{lines_of}
 use Rattle.live_lanes.specs.Calls.{called_in}
 use Rattle.live_lanes.specs.Drawn.{IsDrawn, IsWhole}

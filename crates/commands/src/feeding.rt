@@ -9,14 +9,14 @@ ghost use Rattle.std.specs.Prelude.{◌≤◌, ℕ, List, IfErr, IfOk};
 ghost use Rattle.bus_semantics.specs.Plan.{plan_of};
 ghost use Rattle.declared_names.specs.Sizes.{AreFew};
 ghost use Rattle.description_stages.specs.Plans.{IsPlannedOf};
-ghost use Rattle.feed_reading.specs.Reading.{AreFeeds};
+ghost use Rattle.feed_queue.specs.Reading.{AreFeeds};
 ghost use Rattle.commands.specs.Judging.{IsNotServed};
 ghost use Rattle.commands.specs.LiveCommand.{AreLiveInputs};
 
 use crate::preparing::plan_bytes;
 use crate::stop::{Finding, Stop};
 use description_stages::PlannedDescription;
-use feed_reading::{Feeds, FeedsRead, read_feeds};
+use feed_queue::{Feeds, FeedsRead, read_feeds};
 use std::alloc::Global;
 
 /// So many cores may run while stimuli arrive.

@@ -1,2 +1,6 @@
 pub mod Counts
 mod Steps
+mod Callable
+mod Few
+mod Gifts
+mod ReadingSteps

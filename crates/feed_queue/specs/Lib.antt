@@ -3,3 +3,9 @@ pub mod Feeds
 pub mod Passes
 pub mod Steps
 pub mod Views
+pub mod Gifts
+pub mod Given
+pub mod Heard
+pub mod Progress
+pub mod Reading
+pub mod Stimuli

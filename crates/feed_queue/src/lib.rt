@@ -1,4 +1,5 @@
-//! A queue through which feeders, each in its order, hand numbers to a pump, all at the same time.
+//! Stimuli of four feeds: what is read of them, and a queue through which feeders, each in its order, hand their numbers to a pump, all at
+//! the same time.
 //!
 //! There are four feeds. A feeder pushes the numbers of its feed, 0, 1, 2 and so on, as many as the feed is long at most. The pump takes
 //! them one by one and keeps the order in which feeds came.
@@ -8,6 +9,9 @@
 //! many in all as the pass of its feeder has pushed, at most the feed's length; and the pump's pass knows the feeds of all items
 //! popped, in their order. `push` and `next` make their steps by calls of `crossbeam_queue` that require that the rule survives
 //! them, whatever other passes have done meanwhile. Nothing is said of order between feeds, nor of when a number arrives.
+//!
+//! Stimuli are lines of text: a feed's number, a space and a line of a script. `read_feeds` reads them over the plan of a bus in a time that is
+//! linear in the bytes and the wishes.
 //!
 //! # Decisions
 //!
@@ -26,19 +30,38 @@
 //! **What does the pump say if it popped nothing?** That nothing changed. The library says that the queue was empty at one moment
 //! of the call. A clause can only say that there was a list without items, which says nothing: what a shared queue holds, no
 //! clause can name. So the pump asks again until it has popped as many as there are in all.
+//!
+//! **Which limits do stimuli have?** 100,000 lines as a script, and 65,536 wishes in all, of which each tick is one. So no limit
+//! of ticks is needed, and there are no run lines.
+//!
+//! **What is bad if `stop` is missing?** The line behind the last, since there it should stand. Its number is the number of lines
+//! plus one.
 #![tactic(auto)]
 
 mod feeder;
+mod feeds;
+mod feeds_read;
+mod giving;
+mod heard;
+mod hearing;
+mod judging;
+mod laws;
 mod opening;
 mod passes;
+mod progress;
 mod pump;
 mod queue;
+mod reading;
 mod rule;
 mod threads;
 mod views;
 
+pub use feeds::Feeds;
+pub use feeds_read::FeedsRead;
+pub use laws::{feeds_are_few, feeds_give_what_may_be_called};
 pub use passes::{Feeder, Pump};
 pub use queue::{FeedQueue, Queued};
+pub use reading::read_feeds;
 pub use rule::Feeding;
 
 /// There was no memory for what a call makes.

@@ -14,8 +14,8 @@ use Rattle.cross_core_table.specs.Seats.{IsSeatOf}
 use Rattle.core_lanes.specs.Rooms.{HaveRoom}
 use Rattle.feed_queue.specs.declared.queue.Queued.{Queued}
 use Rattle.feed_queue.specs.Passes.{IsNew, IsPumpOf, order_of}
-use Rattle.feed_reading.specs.declared.feeds.Feeds.{Feeds}
-use Rattle.feed_reading.specs.Given.{lengths_of}
+use Rattle.feed_queue.specs.declared.feeds.Feeds.{Feeds}
+use Rattle.feed_queue.specs.Given.{lengths_of}
 use Rattle.live_lanes.specs.declared.caller.Caller.{Caller}
 use Rattle.live_lanes.specs.declared.lanes.Lane.{Lane}
 use Rattle.live_lanes.specs.declared.workers.Worker.{Worker}

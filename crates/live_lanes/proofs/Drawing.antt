@@ -6,7 +6,7 @@ use Rattle.std.proofs.Math.Seq.{take-append_seam}
 use Rattle.bus_semantics.specs.declared.entries.Stamped.{Stamped}
 use Rattle.bus_semantics.specs.Wanted.{Wanted}
 use Rattle.feed_queue.specs.Feeds.{times}
-use Rattle.feed_reading.specs.declared.feeds.Feeds.{Feeds}
+use Rattle.feed_queue.specs.declared.feeds.Feeds.{Feeds}
 use Rattle.live_lanes.specs.Calls.{wish_in, wishes_in}
 use Rattle.live_lanes.specs.Drawn.{IsDrawn, wanted_at}
 

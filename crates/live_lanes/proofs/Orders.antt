@@ -21,9 +21,9 @@ use Rattle.bus_semantics.specs.Wanted.{Wanted, wanted_of}
 use Rattle.core_lanes.specs.Calling.{IsCall}
 use Rattle.feed_queue.specs.Feeds.{length_of, times}
 use Rattle.feed_queue.proofs.Counts.{times_last, times_other, times_within}
-use Rattle.feed_reading.specs.declared.feeds.Feeds.{Feeds}
-use Rattle.feed_reading.specs.Given.{lengths_of}
-use Rattle.feed_reading.specs.Gifts.{wishes_at}
+use Rattle.feed_queue.specs.declared.feeds.Feeds.{Feeds}
+use Rattle.feed_queue.specs.Given.{lengths_of}
+use Rattle.feed_queue.specs.Gifts.{wishes_at}
 use Rattle.live_lanes.specs.Callers.{AreCalls, AreAllCalls}
 use Rattle.live_lanes.specs.Calls.{HasCalled, wish_in, wishes_in}
 use Rattle.live_lanes.specs.Drawn.{AreWished, IsDrawn, wanted_at}

@@ -29,7 +29,7 @@ use Rattle.core_lanes.specs.Calling.{TakeParts}
 use Rattle.core_lanes.specs.Rooms.{HasRoom, HaveRoom}
 use Rattle.core_lanes.specs.Taking.{TakesTurns, TakeTurns}
 use Rattle.feed_queue.specs.Passes.{order_of}
-use Rattle.feed_reading.specs.declared.feeds.Feeds.{Feeds}
+use Rattle.feed_queue.specs.declared.feeds.Feeds.{Feeds}
 use Rattle.live_lanes.specs.declared.beside.Made.{Made}
 use Rattle.live_lanes.specs.declared.caller.Caller.{Caller}
 use Rattle.live_lanes.specs.declared.lanes.Lane.{Lane}

@@ -11,7 +11,7 @@ use Rattle.core_turn.specs.Cores.{CoreState}
 use Rattle.cross_core_table.specs.OpenRounds.{OpenRound}
 use Rattle.feed_queue.specs.declared.passes.Feeder as passes
 use Rattle.feed_queue.specs.declared.queue.FeedQueue.{FeedQueue}
-use Rattle.feed_reading.specs.declared.feeds.Feeds.{Feeds}
+use Rattle.feed_queue.specs.declared.feeds.Feeds.{Feeds}
 use Rattle.live_lanes.specs.declared.caller.Caller.{Caller}
 use Rattle.live_lanes.specs.declared.lanes.Lane.{Lane}
 use Rattle.live_lanes.specs.declared.workers.Worker.{Worker}

@@ -17,7 +17,7 @@ use Rattle.cross_core_table.specs.OpenRounds.{OpenRound}
 use Rattle.core_lanes.specs.After.{after}
 use Rattle.core_lanes.specs.Rooms.{HaveRoom}
 use Rattle.feed_queue.specs.Passes.{IsNew, order_of}
-use Rattle.feed_reading.specs.declared.feeds.Feeds.{Feeds}
+use Rattle.feed_queue.specs.declared.feeds.Feeds.{Feeds}
 use Rattle.live_lanes.specs.declared.beside.Begun.{Begun}
 use Rattle.live_lanes.specs.declared.beside.Beside.{Beside}
 use Rattle.live_lanes.specs.declared.beside.Beside.TheVariants.{Ran, Memory}

@@ -10,8 +10,8 @@ use Rattle.core_lanes.specs.Calling.{IsCall}
 use Rattle.feed_queue.specs.declared.queue.FeedQueue.{FeedQueue}
 use Rattle.feed_queue.specs.Feeds.{length_of, times}
 use Rattle.feed_queue.specs.Passes.{IsPumpOf, order_of}
-use Rattle.feed_reading.specs.declared.feeds.Feeds.{Feeds}
-use Rattle.feed_reading.specs.Given.{lengths_of}
+use Rattle.feed_queue.specs.declared.feeds.Feeds.{Feeds}
+use Rattle.feed_queue.specs.Given.{lengths_of}
 use Rattle.live_lanes.specs.declared.caller.Caller.{Caller}
 use Rattle.live_lanes.specs.Calls.{wishes_in}
 use Rattle.live_lanes.specs.Drawn.{IsDrawn, IsWhole}

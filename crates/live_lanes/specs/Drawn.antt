@@ -6,9 +6,9 @@ use Rattle.bus_semantics.specs.Fitting.{wish_fits}
 use Rattle.bus_semantics.specs.Plan.{Plan}
 use Rattle.bus_semantics.specs.Wanted.{Wanted, wanted_of}
 use Rattle.feed_queue.specs.Feeds.{times}
-use Rattle.feed_reading.specs.declared.feeds.Feeds.{Feeds}
-use Rattle.feed_reading.specs.Given.{lengths_of}
-use Rattle.feed_reading.specs.Gifts.{wishes_at}
+use Rattle.feed_queue.specs.declared.feeds.Feeds.{Feeds}
+use Rattle.feed_queue.specs.Given.{lengths_of}
+use Rattle.feed_queue.specs.Gifts.{wishes_at}
 
 -- what a feed wishes, in its order
 abbrev pub wanted_at : Feeds → (feed : ℕ) → List Wanted

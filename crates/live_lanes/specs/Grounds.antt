@@ -7,8 +7,8 @@ use Rattle.task_machine.specs.declared.instr.TaskSet.{TaskSet}
 use Rattle.task_generator.specs.Promise.{AsksAsPlanned}
 use Rattle.cross_core_table.specs.Logs.{plan_in}
 use Rattle.cross_core_table.specs.OpenRounds.{OpenRound}
-use Rattle.feed_reading.specs.declared.feeds.Feeds.{Feeds}
-use Rattle.feed_reading.specs.Given.{lengths_of}
+use Rattle.feed_queue.specs.declared.feeds.Feeds.{Feeds}
+use Rattle.feed_queue.specs.Given.{lengths_of}
 use Rattle.live_lanes.specs.Calls.{HaveStood}
 use Rattle.live_lanes.specs.Drawn.{AreWished}
 

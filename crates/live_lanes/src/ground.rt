@@ -3,8 +3,7 @@
 use crate::yard::Yard;
 use bus_semantics::BusPlan;
 use cross_core_table::Round;
-use feed_queue::{FeedQueue, Feeding};
-use feed_reading::Feeds;
+use feed_queue::{FeedQueue, Feeding, Feeds};
 use rte_text::Gate;
 use task_machine::TaskSet;
 

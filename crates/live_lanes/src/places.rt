@@ -1,7 +1,7 @@
 //! The memory of a stay.
 
 ghost use Rattle.std.specs.Prelude.{◌≡◌, ◌≤◌, IfOk, OnOk, suc, length, sum};
-ghost use Rattle.feed_reading.specs.Given.{lengths_of};
+ghost use Rattle.feed_queue.specs.Given.{lengths_of};
 ghost use Rattle.live_lanes.specs.Places.{HasPlaces};
 
 use crate::workers::Worker;
@@ -9,7 +9,7 @@ use crate::yard::Yard;
 use core_turn::Core;
 use cross_core_table::CoreSeat;
 use crossbeam_utils::sync::{Parker, Unparker};
-use feed_reading::Feeds;
+use feed_queue::Feeds;
 use std::alloc::{AllocError, Global};
 
 /// Where the cores of a round park, and room for all who run, and for cores and seats when these are taken apart.

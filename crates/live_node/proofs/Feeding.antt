@@ -9,8 +9,8 @@ use Rattle.bus_semantics.specs.declared.entries.Actor.TheVariants.{Env}
 use Rattle.bus_semantics.specs.Fitting.{wish_fits}
 use Rattle.bus_semantics.specs.Plan.{Plan}
 use Rattle.bus_semantics.specs.Wanted.{Wanted, to_tick, wanted_of}
-use Rattle.feed_reading.specs.declared.feeds.Feeds.{Feeds}
-use Rattle.feed_reading.specs.Given.{may_give}
+use Rattle.feed_queue.specs.declared.feeds.Feeds.{Feeds}
+use Rattle.feed_queue.specs.Given.{may_give}
 use Rattle.script_reading.proofs.Carrying.{call_fits}
 use Rattle.live_lanes.specs.Drawn.{wanted_at}
 

@@ -5,7 +5,7 @@ use Rattle.bus_semantics.specs.Interleaving.{stamps_count}
 use Rattle.core_runtime.specs.After.{after}
 use Rattle.core_runtime.specs.Nodes.{NodeState, IsLawfulNode}
 use Rattle.feed_queue.specs.Passes.{order_of}
-use Rattle.feed_reading.specs.declared.feeds.Feeds.{Feeds}
+use Rattle.feed_queue.specs.declared.feeds.Feeds.{Feeds}
 use Rattle.live_lanes.specs.Calls.{called_in}
 use Rattle.live_lanes.specs.Drawn.{IsDrawn, IsWhole}
 use Rattle.live_node.specs.declared.serving.Report.{Report}

@@ -6,7 +6,6 @@
 mod printing;
 mod serving;
 
-pub use feed_queue::Pump;
-pub use feed_reading::Feeds;
+pub use feed_queue::{Feeds, Pump};
 pub use printing::put_live;
 pub use serving::{Report, Served, serve};

@@ -3,13 +3,12 @@
 ghost use Rattle.std.specs.Prelude.{◌≡◌, ◌≤◌};
 ghost use Rattle.bus_semantics.specs.Plan.{plan_of};
 ghost use Rattle.bus_semantics.specs.Spelling.{Letters};
-ghost use Rattle.feed_reading.specs.Reading.{AreFeeds};
+ghost use Rattle.feed_queue.specs.Reading.{AreFeeds};
 ghost use Rattle.core_runtime.specs.Nodes.{IsSameNode};
 ghost use Rattle.live_node.specs.Serving.{IfStopped, IfMemory, IsSameBus, KeepsTheLaw, MakesTheCalls};
 
 use core_runtime::Node;
-use feed_queue::Pump;
-use feed_reading::{Feeds, feeds_are_few, feeds_give_what_may_be_called};
+use feed_queue::{Feeds, Pump, feeds_are_few, feeds_give_what_may_be_called};
 use live_lanes::{Beside, Made, Work, run_beside};
 use rte_text::Gate;
 use std::alloc::Global;

@@ -8,7 +8,7 @@ use Rattle.bus_semantics.specs.Plan.{plan_of}
 use Rattle.core_runtime.specs.Nodes.{NodeState, IsLawfulNode}
 use Rattle.description_stages.specs.declared.planning.PlannedDescription.{PlannedDescription}
 use Rattle.feed_queue.specs.Passes.{order_of}
-use Rattle.feed_reading.specs.declared.feeds.Feeds.{Feeds}
+use Rattle.feed_queue.specs.declared.feeds.Feeds.{Feeds}
 use Rattle.live_node.specs.declared.serving.Report.{Report}
 use Rattle.live_node.specs.Printing.{live_text, PrintsBegunLive, PrintsLive}
 use Rattle.live_node.specs.Serving.{IsSameBus, KeepsTheLaw, MakesTheCalls}

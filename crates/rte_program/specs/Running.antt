@@ -5,7 +5,7 @@ use Rattle.rte_text.specs.Sinks.{AppendsPrefixWhereTold, AppendsWhereTold}
 use Rattle.bus_semantics.specs.declared.script.Line.{Line}
 use Rattle.bus_semantics.specs.declared.script.Mapping.{Mapping}
 use Rattle.bus_semantics.specs.Plan.{Plan}
-use Rattle.feed_reading.specs.declared.feeds.Feeds.{Feeds}
+use Rattle.feed_queue.specs.declared.feeds.Feeds.{Feeds}
 use Rattle.pair_run.specs.declared.pair.PairRun.{PairRun}
 use Rattle.pair_run.specs.declared.pair.PairRun.TheVariants.{Finished, Failed, LinkFailed, Memory}
 use Rattle.commands.specs.declared.status.Status.{Status}

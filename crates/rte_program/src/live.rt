@@ -12,7 +12,7 @@ ghost use Rattle.std.specs.Prelude.{◌≡◌, ◌≤◌, ◌⊎◌, ◌∷◌, 
 ghost use Rattle.rte_text.specs.Counts.{Rose};
 ghost use Rattle.bus_semantics.specs.Plan.{plan_of};
 ghost use Rattle.core_runtime.specs.Nodes.{IsLawfulNode};
-ghost use Rattle.feed_reading.specs.Reading.{AreFeeds};
+ghost use Rattle.feed_queue.specs.Reading.{AreFeeds};
 ghost use Rattle.commands.specs.declared.status.Status.TheVariants as status;
 ghost use Rattle.commands.specs.Carrying.{world, CarriesOut, Ends};
 ghost use Rattle.commands.specs.Commands.{live};

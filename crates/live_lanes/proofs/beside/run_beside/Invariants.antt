@@ -1,4 +1,4 @@
-use Rattle.feed_reading.specs.Given.{lengths_of}
+use Rattle.feed_queue.specs.Given.{lengths_of}
 use Rattle.live_lanes.proofs.beside.run_beside.Given as goal
 
 abbrev pub ghosts-run_over : goal.ghosts-run_over

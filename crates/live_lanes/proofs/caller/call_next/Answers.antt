@@ -9,7 +9,7 @@ use Rattle.cross_core_table.specs.Logs.{plan_in}
 use Rattle.cross_core_table.specs.OpenRounds.{OpenRound}
 use Rattle.feed_queue.specs.Feeds.{length_of, times}
 use Rattle.feed_queue.specs.Passes.{order_of}
-use Rattle.feed_reading.specs.Given.{lengths_of}
+use Rattle.feed_queue.specs.Given.{lengths_of}
 use Rattle.live_lanes.specs.Calls.{HaveStood}
 use Rattle.live_lanes.specs.Drawn.{wanted_at}
 use Rattle.live_lanes.proofs.Orders.{fewer, calls_on, may_have}

@@ -8,7 +8,7 @@ use Rattle.core_lanes.specs.Rooms.{HaveRoom}
 use Rattle.core_runtime.proofs.Together.{node_count}
 use Rattle.core_runtime.specs.Parting.{IsParts}
 use Rattle.core_runtime.proofs.Parting.{parts_on}
-use Rattle.feed_reading.specs.Reading.{AreFeeds}
+use Rattle.feed_queue.specs.Reading.{AreFeeds}
 use Rattle.bus_semantics.specs.Interleaving.{stamps_count}
 use Rattle.core_runtime.specs.After.{after}
 use Rattle.core_runtime.specs.Nodes.{IsLawfulNode}

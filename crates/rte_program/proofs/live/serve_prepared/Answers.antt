@@ -2,7 +2,7 @@ use Rattle.std.proofs.Common.{◌≤◌, subst, sym}
 use Rattle.bus_semantics.specs.declared.plan.BusPlan.{BusPlan}
 use Rattle.bus_semantics.specs.declared.script.Mapping.{Mapping}
 use Rattle.bus_semantics.specs.Plan.{plan_of}
-use Rattle.feed_reading.specs.Reading.{AreFeeds}
+use Rattle.feed_queue.specs.Reading.{AreFeeds}
 use Rattle.rte_program.specs.Running.{IsLiveRun}
 use Rattle.rte_program.proofs.live.serve_prepared.Goals as goal
 

@@ -1,4 +1,0 @@
-mod Callable
-mod Few
-mod Gifts
-mod Steps

@@ -1,6 +1,0 @@
-pub mod Gifts
-pub mod Given
-pub mod Heard
-pub mod Progress
-pub mod Reading
-pub mod Stimuli
