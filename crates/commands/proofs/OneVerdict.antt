@@ -15,7 +15,7 @@ use Rattle.description_stages.specs.Plans.{IsPlannedOf, IsPlanRefusalOf}
 use Rattle.feed_queue.specs.Reading.{first_bad as bad_stimulus}
 use Rattle.line_fields.specs.Texts.{lines_of}
 use Rattle.pair_run.specs.Linked.{links_of}
-use Rattle.plan_laws.specs.Same.{IsSamePlan}
+use Rattle.description_stages.specs.Same.{IsSamePlan}
 use Rattle.script_reading.specs.Meaning.{saying}
 use Rattle.script_reading.specs.Reading.{IsScript, first_bad}
 use Rattle.commands.specs.declared.stop.Finding.{Finding}

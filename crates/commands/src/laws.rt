@@ -5,7 +5,7 @@ ghost use Rattle.commands.specs.Commands.{Command};
 ghost use Rattle.commands.specs.Verdicts.{IsVerdictOn, Verdict};
 
 use check_definitions::traces_have_one_verdict;
-use plan_laws::{
+use description_stages::{
     headers_are_one, no_refused_description_has_a_plan, plans_are_one, refusals_are_one,
 };
 

@@ -25,3 +25,16 @@ pub mod Servers
 pub mod Components
 pub mod Beginning
 pub mod Fields
+pub mod Held
+pub mod Flat
+pub mod Joins
+pub mod ComponentPlans
+pub mod Parts
+pub mod Mapped
+pub mod Planned
+pub mod Headers
+pub mod Printed
+pub mod Sorted
+pub mod Refused
+pub mod WholePlans
+pub mod Sizes

@@ -1,2 +1,4 @@
 pub mod Stages
 pub mod Plans
+pub mod Same
+pub mod Sizes

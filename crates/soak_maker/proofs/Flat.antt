@@ -24,7 +24,7 @@ use Rattle.description_types.specs.Joined.IsBelow.{itself, further}
 use Rattle.description_types.specs.Members.{Among}
 use Rattle.description_types.specs.Paths.{ContainsItself, prototypes_of, type_at, type_in}
 use Rattle.description_types.specs.Places.{IsTooDeep, Place, places, places_below, places_of}
-use Rattle.plan_laws.proofs.Held.{Shared}
+use Rattle.description_stages.proofs.Held.{Shared}
 use Rattle.soak_maker.proofs.Lists.{among_at, any_none, at_position, at_start, flat_three, get_first, get_second, get_third, length-three, three, three_at, two, two_at, length-two, among_first, among_second, among_take, few_apart, map_three_of, three_same}
 use Rattle.soak_maker.proofs.Soaked.{acc_name, c_name, inner, p_name, queue, service, soaked, typed}
 

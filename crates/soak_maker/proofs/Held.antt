@@ -7,7 +7,7 @@ use Rattle.description_types.specs.declared.component.Runnable.{Runnable}
 use Rattle.description_types.specs.declared.description.Description.{Description}
 use Rattle.component_model.specs.Descriptions.{description_of}
 use Rattle.component_model.specs.Programs.{ComponentTree, RunnableTree, component_tree, runnable_tree}
-use Rattle.plan_laws.proofs.Held.{Shared, running}
+use Rattle.description_stages.proofs.Held.{Shared, running}
 use Rattle.soak_maker.proofs.Soaked.{adding, consumer_program, consumer_tree, holding, making, producer_program, producer_tree, server_program, server_tree, soak_tree, soaked, taking}
 
 one_back : (rs : List Runnable) (r : RunnableTree) → map runnable_tree rs ≡ r ∷ [] → (x : Runnable) × (rs ≡ x ∷ []) × (runnable_tree x ≡ r)

@@ -18,7 +18,7 @@ use Rattle.plan_definitions.specs.Joins.{are_several, crowds, is_crowded, is_man
 use Rattle.plan_definitions.specs.JoinedItems.{end_of, in_instances, in_ports}
 use Rattle.plan_definitions.specs.JoinRefusals.{in_composition, refusal}
 use Rattle.plan_definitions.specs.Names.{end_text}
-use Rattle.plan_laws.proofs.Held.{Shared}
+use Rattle.description_stages.proofs.Held.{Shared}
 use Rattle.soak_maker.proofs.Lists.{among_at, first_none, get_first, get_second, get_third, three_at, two, two_at}
 use Rattle.soak_maker.proofs.Soaked.{acc_name, c_name, p_name, queue, service, soak_composition, soak_types, soaked, typed}
 use Rattle.soak_maker.proofs.Flat.{end_at, named, queue_join, service_join, soak_instances, soak_joins}

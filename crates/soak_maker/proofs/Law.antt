@@ -24,7 +24,7 @@ use Rattle.plan_definitions.specs.MappingRefusals as mapping
 use Rattle.plan_definitions.specs.MappingRefusals.{IsAfter, IsOfTasks, mapping_text}
 use Rattle.plan_definitions.specs.PlanRefusals.{IsOfLists, IsOfSize, IsRefusal, IsThen}
 use Rattle.description_stages.specs.Plans.{IsPlanRefusalOf}
-use Rattle.plan_laws.proofs.Sizes.{plan_counts}
+use Rattle.description_stages.proofs.Sizes.{plan_counts}
 use Rattle.soak_maker.specs.Soak.{soak_value}
 use Rattle.soak_maker.proofs.Catalogs.{catalog_is, soak_catalog}
 use Rattle.soak_maker.proofs.Distinct.{distinct}
@@ -38,7 +38,7 @@ use Rattle.soak_maker.proofs.References.{references}
 use Rattle.soak_maker.proofs.Shapes.{names, none_passes, shapes, unbroken}
 use Rattle.soak_maker.proofs.Sizes.{small}
 use Rattle.soak_maker.proofs.Soaked.{soak_tree, soaked}
-use Rattle.plan_laws.proofs.Whole.{one_value}
+use Rattle.description_stages.proofs.WholePlans.{one_value}
 
 -- ---- rules 1 to 8
 

@@ -19,7 +19,7 @@ use Rattle.plan_definitions.specs.Mapped.{event_named, instance_named, invokes, 
 use Rattle.plan_definitions.specs.MappingRefusals.{event_text, mapped_text, of_events, runnable_text}
 use Rattle.plan_definitions.specs.MappingRules.{Chain, ReachesItself, Waits, are_same, badly_mapped, badly_mapped_in, is_mapped_well, not_direct, not_direct_in, serves_outside, spread, spread_in, tasks_behind, tasks_from, tasks_of, tasks_of_event, unnamed, waits_by, waits_for}
 use Rattle.plan_definitions.specs.Parts.{component_of}
-use Rattle.plan_laws.proofs.Held.{Shared}
+use Rattle.description_stages.proofs.Held.{Shared}
 use Rattle.soak_maker.proofs.Lists.{AllAt, all_told, at_start, first_none, get_first, get_second, get_third, length-three, one_passes, position_is, three_at}
 use Rattle.soak_maker.proofs.Names.{acc_named, c_named, p_named}
 use Rattle.soak_maker.proofs.Soaked.{acc_name, c_name, consumer_tree, holding, in_task, p_name, producer_tree, server_tree, soaked}

@@ -10,7 +10,7 @@ use Rattle.plan_definitions.specs.declared.component_rule.ComponentRule.TheVaria
 use Rattle.plan_definitions.specs.Programs.{path_of, program_refusal, refused_program}
 use Rattle.plan_definitions.specs.Signatures.{signature}
 use Rattle.plan_definitions.specs.Spots.{program_text}
-use Rattle.plan_laws.proofs.Held.{Shared, running}
+use Rattle.description_stages.proofs.Held.{Shared, running}
 use Rattle.soak_maker.proofs.Soaked.{adding, consumer_program, consumer_tree, holding, making, producer_program, producer_tree, server_program, server_tree, soak_types, soaked, taking}
 
 module _ (n : ℕ) (p q s : Shared) (p_is : program_tree (arc_value p) ≡ producer_program) (q_is : program_tree (arc_value q) ≡ consumer_program) (s_is : program_tree (arc_value s) ≡ server_program) where

@@ -27,8 +27,8 @@ use Rattle.plan_definitions.specs.Ports.{com_spec_of, port_of, ports_of, queue_l
 use Rattle.plan_definitions.specs.Services.{is_numbered_mapped}
 use Rattle.plan_definitions.specs.Sites.{sites, sites_of_instance}
 use Rattle.plan_definitions.specs.Things.{elements_of}
-use Rattle.plan_laws.specs.Sizes.{is_past, things_of, waiting_at}
-use Rattle.plan_laws.proofs.Held.{Shared}
+use Rattle.description_stages.specs.Sizes.{is_past, things_of, waiting_at}
+use Rattle.description_stages.proofs.Held.{Shared}
 use Rattle.soak_maker.proofs.Lists.{AllAt, at_start, length-three, three_at}
 use Rattle.soak_maker.proofs.Soaked.{acc_name, c_name, p_name, soaked}
 use Rattle.soak_maker.proofs.Flat.{named, soak_instances, then_some}

@@ -27,7 +27,7 @@ use Rattle.description_types.specs.declared.description.Task.{Task}
 use Rattle.description_types.specs.declared.description.TaskMapping.{TaskMapping}
 use Rattle.component_model.specs.Descriptions.{DescriptionTree}
 use Rattle.component_model.specs.Programs.{ComponentTree, RunnableTree}
-use Rattle.plan_laws.proofs.Held.{Shared, running}
+use Rattle.description_stages.proofs.Held.{Shared, running}
 use Rattle.soak_maker.specs.Parts.{name}
 use Rattle.soak_maker.proofs.Lists.{two, three}
 

@@ -15,8 +15,8 @@ use Rattle.bus_semantics.specs.Plan.{instance_of, plan_of, queue_of}
 use Rattle.bus_semantics.specs.Spelling.{spaced}
 use Rattle.plan_definitions.specs.Lists.{from}
 use Rattle.plan_text.specs.Lines.{direct_events, direct_line, end_text, instance_line, invokes_directly, join_line, machine_line, owned_text, plan_text, task_lines}
-use Rattle.plan_laws.proofs.Held.{at_place, held_as, look}
-use Rattle.plan_laws.proofs.Parts.{item_text-again}
+use Rattle.description_stages.proofs.Held.{at_place, held_as, look}
+use Rattle.description_stages.proofs.Parts.{item_text-again}
 
 module _ (d : Description) (cs : List Component) (same : map component_tree d.components ≡ map component_tree cs) (f : Flat) where
   instance_line-again : (x : Instance) → instance_line d x ≡ instance_line (held_as d cs) x

@@ -28,7 +28,7 @@ use Rattle.plan_definitions.specs.ComponentRefusals.{broken_in, number_of, of_pr
 use Rattle.plan_definitions.specs.Signatures.{signature}
 use Rattle.plan_definitions.specs.Spots.{program_text, spot_text}
 use Rattle.plan_definitions.specs.Counts.{count, same_operation}
-use Rattle.plan_laws.proofs.Held.{bare, held_as, on_each, on_first, running}
+use Rattle.description_stages.proofs.Held.{bare, held_as, on_each, on_first, running}
 
 -- ---- a component
 

@@ -41,10 +41,10 @@ use Rattle.plan_definitions.specs.Started.{disabling_of, event_of, events, momen
 use Rattle.plan_definitions.specs.Started as started
 use Rattle.plan_definitions.specs.Listed.{bundle_leaders, groups_listed, is_required, list_numbers, list_of, lists, lists_at, reads, runnable_at}
 use Rattle.plan_definitions.specs.Planned.{areas, areas_at, named_areas, object_count, plan_of}
-use Rattle.plan_laws.proofs.Components.{signature-again}
-use Rattle.plan_laws.proofs.Held.{held_as, look, look_on, on_from}
-use Rattle.plan_laws.proofs.Mapped.{at_events, at_runnable, invocation_of-again, is_mapped-again}
-use Rattle.plan_laws.proofs.Parts.{areas_of-again, com_spec_of-again, component_of-again, element_number-again, events_of-again, found, interface_of-again, item_text-again, machine_for-again, machine_number-again, mode_port_number-again, mode_ports_of-again, of_instances-again, of_kind-again, ports_of-again, queue_length_of-again, runnables_of-again, server_number-again, site_name-again}
+use Rattle.description_stages.proofs.ComponentPlans.{signature-again}
+use Rattle.description_stages.proofs.Held.{held_as, look, look_on, on_from}
+use Rattle.description_stages.proofs.Mapped.{at_events, at_runnable, invocation_of-again, is_mapped-again}
+use Rattle.description_stages.proofs.Parts.{areas_of-again, com_spec_of-again, component_of-again, element_number-again, events_of-again, found, interface_of-again, item_text-again, machine_for-again, machine_number-again, mode_port_number-again, mode_ports_of-again, of_instances-again, of_kind-again, ports_of-again, queue_length_of-again, runnables_of-again, server_number-again, site_name-again}
 
 module _ (d : Description) (cs : List Component) (same : map component_tree d.components ≡ map component_tree cs) (f : Flat) where
   -- ---- elements

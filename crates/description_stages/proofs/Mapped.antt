@@ -25,8 +25,8 @@ use Rattle.plan_definitions.specs.Mapped.{instance_named, invocation_of, invokes
 use Rattle.plan_definitions.specs.MappingRefusals.{event_text, mapped_text, of_events, path_of, runnable_text, IsAfter, IsOfTasks, IsRefusal}
 use Rattle.plan_definitions.specs.MappingRules.{are_same, badly_mapped_in, in_instances, is_mapped_well, keeps_direct, may_be_direct, not_direct_in, serves_outside, spread_in, task_of_server, tasks_behind, tasks_from, tasks_of, tasks_of_event, unnamed, waits_by, waits_for, Chain, ReachesItself, Waits}
 use Rattle.plan_definitions.specs.Tasks.{by_position, mapping_of, number_of}
-use Rattle.plan_laws.proofs.Held.{at_place, held_as, look, look_on, look_within, on_first, running}
-use Rattle.plan_laws.proofs.Parts.{component_of-again, events_of-again, found}
+use Rattle.description_stages.proofs.Held.{at_place, held_as, look, look_on, look_within, on_first, running}
+use Rattle.description_stages.proofs.Parts.{component_of-again, events_of-again, found}
 
 accesses_of : (r s : Runnable) → runnable_tree r ≡ runnable_tree s → r.accesses ≡ s.accesses
 accesses_of r s e = ap (λ t. t.accesses) e

@@ -10,8 +10,8 @@ ghost use Rattle.rte_text.specs.declared.refusal.Refused.TheVariants.{Rule};
 ghost use Rattle.api_header.specs.Headers.{header_of};
 ghost use Rattle.description_stages.specs.declared.planning.PlannedDescription.{PlannedDescription};
 ghost use Rattle.description_stages.specs.Plans.{IsPlanRefusalOf, IsPlannedOf};
-ghost use Rattle.plan_laws.specs.Same.{IsSamePlan};
-ghost use Rattle.plan_laws.specs.Sizes.{is_past};
+ghost use Rattle.description_stages.specs.Same.{IsSamePlan};
+ghost use Rattle.description_stages.specs.Sizes.{is_past};
 
 /// Bytes that have a plan have one plan, with one mapping and one text. They are made flat in one way.
 pub fn plans_are_one()

@@ -23,7 +23,7 @@ use Rattle.description_types.specs.Flattening.{IsFlatOf, IsRefusedAt, KeepsLimit
 use Rattle.description_types.specs.Instances.{instances, name_at, name_in, prefix_at, written}
 use Rattle.description_types.specs.Joined.{as_inner, Assembles, Delegates, IsBelow, IsChain, IsJoined, IsOutside, Stand, StandsJoin, interface_below, stand_in}
 use Rattle.description_types.specs.Joined.IsBelow.{itself, further}
-use Rattle.plan_laws.proofs.Held.{at_place, held_as, look}
+use Rattle.description_stages.proofs.Held.{at_place, held_as, look}
 
 pub first_as : {P Q : ℕ → Type 0} (limit : ℕ) (o : Option ℕ) → ((n : ℕ) → P n → Q n) → ((n : ℕ) → Q n → P n) → IsFirst P limit o → IsFirst Q limit o
 first_as limit None to back none = λ n below q. none n below (back n q)

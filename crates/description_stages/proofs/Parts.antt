@@ -16,7 +16,7 @@ use Rattle.plan_definitions.specs.Parts.{areas_of, component_of, events_of, numb
 use Rattle.plan_definitions.specs.Sites.{root_ports, sites, sites_of_component, sites_of_ports}
 use Rattle.plan_definitions.specs.Ports.{com_spec_of, interface_of, item_name, item_text, port_of, ports_of, queue_length_of, site_name, variable_name}
 use Rattle.plan_definitions.specs.Things.{element_number, has_machine, machine_for, machine_number, mode_port_number, mode_ports_of, server_number}
-use Rattle.plan_laws.proofs.Held.{as_many, at_place, bare, held_as, look, look_on}
+use Rattle.description_stages.proofs.Held.{as_many, at_place, bare, held_as, look, look_on}
 
 module _ (d : Description) (cs : List Component) (same : map component_tree d.components ≡ map component_tree cs) where
   pub found : (k : ℕ) → option_map component_tree (slice_get d.components k) ≡ option_map component_tree (slice_get cs k)

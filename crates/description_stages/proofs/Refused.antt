@@ -14,13 +14,13 @@ use Rattle.plan_definitions.specs.ComponentRefusals as components
 use Rattle.plan_definitions.specs.MappingRefusals.{IsAfter, IsOfTasks, mapping_text, of_events}
 use Rattle.plan_definitions.specs.MappingRefusals as mapping
 use Rattle.plan_definitions.specs.PlanRefusals.{IsOfLists, IsOfSize, IsRefusal, IsThen, of_size}
-use Rattle.plan_laws.proofs.Components as again
-use Rattle.plan_laws.proofs.Flat.{flat_as, refused_as}
-use Rattle.plan_laws.proofs.Held.{held_as}
-use Rattle.plan_laws.proofs.Joins as joined
-use Rattle.plan_laws.proofs.Mapped.{refusal_as}
-use Rattle.plan_laws.proofs.Planned.{plan_of-again}
-use Rattle.plan_laws.proofs.Sorted.{flat_once}
+use Rattle.description_stages.proofs.ComponentPlans as again
+use Rattle.description_stages.proofs.Flat.{flat_as, refused_as}
+use Rattle.description_stages.proofs.Held.{held_as}
+use Rattle.description_stages.proofs.Joins as joined
+use Rattle.description_stages.proofs.Mapped.{refusal_as}
+use Rattle.description_stages.proofs.Planned.{plan_of-again}
+use Rattle.description_stages.proofs.Sorted.{flat_once}
 
 abbrev pub Found : Type 0
 Found = Option (ℕ × List ℕ)

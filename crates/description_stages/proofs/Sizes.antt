@@ -32,7 +32,7 @@ use Rattle.plan_definitions.specs.Services.{point_of, server_of}
 use Rattle.plan_definitions.specs.Started.{event_of, events}
 use Rattle.plan_definitions.specs.Planned.{areas, areas_at, named_areas, plan_of}
 use Rattle.plan_definitions.specs.PlanRules.{is_queued, is_too_large, received, requested, things}
-use Rattle.plan_laws.specs.Sizes.{is_past, things_of, waiting_at}
+use Rattle.description_stages.specs.Sizes.{is_past, things_of, waiting_at}
 use Rattle.plan_definitions.proofs.Lists.{many_positions}
 
 -- ---- lengths

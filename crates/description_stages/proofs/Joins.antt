@@ -21,7 +21,7 @@ use Rattle.plan_definitions.specs.Interfaces.{are_compatible}
 use Rattle.plan_definitions.specs.JoinedItems.{first_broken, in_instances, in_ports}
 use Rattle.plan_definitions.specs.Names.{end_text, item_text, owner_name, owner_ports}
 use Rattle.plan_definitions.specs.JoinRefusals.{in_composition, number_of, of_connectors, of_items, of_root_ports, refusal}
-use Rattle.plan_laws.proofs.Held.{at_place, held_as, look}
+use Rattle.description_stages.proofs.Held.{at_place, held_as, look}
 
 module _ (d : Description) (cs : List Component) (same : map component_tree d.components ≡ map component_tree cs) where
   ports_of-again : (t : PrototypeType) → ports_of d t ≡ ports_of (held_as d cs) t

@@ -23,14 +23,14 @@ use Rattle.description_stages.specs.declared.planning.PlannedDescription.{Planne
 use Rattle.description_stages.specs.Plans.{IsPlanRefusalOf, IsPlannedOf}
 use Rattle.description_stages.specs.Stages.{IsJoinRefusalOf}
 use Rattle.plan_text.specs.Lines.{plan_text}
-use Rattle.plan_laws.specs.Same.{IsSamePlan}
-use Rattle.plan_laws.proofs.Flat.{flat_as}
-use Rattle.plan_laws.proofs.Held.{held_is, held_same}
-use Rattle.plan_laws.proofs.Mapped.{mapping_of-again}
-use Rattle.plan_laws.proofs.Planned.{plan_of-again}
-use Rattle.plan_laws.proofs.Printed.{text-again, text-same}
-use Rattle.plan_laws.proofs.Refused.{Found, IsRefusedRead, after_first, after_none, none_some, read_once, read_refused_as}
-use Rattle.plan_laws.proofs.Sorted.{flat_once}
+use Rattle.description_stages.specs.Same.{IsSamePlan}
+use Rattle.description_stages.proofs.Flat.{flat_as}
+use Rattle.description_stages.proofs.Held.{held_is, held_same}
+use Rattle.description_stages.proofs.Mapped.{mapping_of-again}
+use Rattle.description_stages.proofs.Planned.{plan_of-again}
+use Rattle.description_stages.proofs.Printed.{text-again, text-same}
+use Rattle.description_stages.proofs.Refused.{Found, IsRefusedRead, after_first, after_none, none_some, read_once, read_refused_as}
+use Rattle.description_stages.proofs.Sorted.{flat_once}
 
 -- ---- reading is a function
 

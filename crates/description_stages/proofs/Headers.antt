@@ -11,7 +11,7 @@ use Rattle.component_model.specs.Programs.{component_tree, runnable_tree}
 use Rattle.api_header.specs.Headers.{header_for, header_of, header_with}
 use Rattle.api_header.specs.Listing.{each_once, first_clash, given, given_by}
 use Rattle.api_header.specs.Targets.{Letters}
-use Rattle.plan_laws.proofs.Held.{bare, held_is, held_same, on_each, running}
+use Rattle.description_stages.proofs.Held.{bare, held_is, held_same, on_each, running}
 
 given_by-again : (types : TypeTable) (c : Component) (r s : Runnable) → runnable_tree r ≡ runnable_tree s → given_by types c r ≡ given_by types c s
 given_by-again types c r s e = ap (λ t. given_by types c (running r.program t)) e

@@ -1,5 +1,0 @@
-use Rattle.plan_laws.proofs.Whole.{refused_unplanned}
-use Rattle.plan_laws.proofs.laws.no_refused_description_has_a_plan.Goals as goal
-
-pub returns : goal.returns
-returns c = λ bytes r x refused planned. refused_unplanned bytes r x refused planned
