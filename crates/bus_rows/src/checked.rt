@@ -1,8 +1,8 @@
 //! Worked rows of the check.
 
 ghost use Rattle.std.specs.Prelude.{List, ℕ, []};
-ghost use Rattle.check_definitions.specs.declared.checked.Checked.TheVariants.{Legal, BadLine, Illegal};
-ghost use Rattle.check_definitions.specs.Verdicts.{IsVerdict};
+ghost use Rattle.trace_reading.specs.declared.checked.Checked.TheVariants.{Legal, BadLine, Illegal};
+ghost use Rattle.trace_reading.specs.Verdicts.{IsVerdict};
 ghost use Rattle.bus_rows.specs.OneWriter.{one_writer, one_task, ten_ticks_and_run, written_then_read_text};
 ghost use Rattle.bus_rows.specs.ModeSwitch.{one_machine, three_cores, switch_and_run, switched_text, switched_text_by_names};
 ghost use Rattle.bus_rows.specs.Traces.{by_names, cut_before_look, cut_in_word, eight_written, eleven_ticks, idle_before_look, idle_first, run_first, six_read_text, no_such_version, phases_exchanged, phases_exchanged_by_names, cut_in_phase};

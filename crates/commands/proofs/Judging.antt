@@ -6,7 +6,7 @@ use Rattle.rte_text.specs.declared.refusal.Refused.TheVariants.{Memory, Rule}
 use Rattle.bus_semantics.specs.declared.script.Line.{Line}
 use Rattle.bus_semantics.specs.Plan.{Plan, plan_of}
 use Rattle.bus_semantics.specs.Spelling.{Letters}
-use Rattle.check_definitions.specs.declared.checked.Checked.TheVariants.{Legal}
+use Rattle.trace_reading.specs.declared.checked.Checked.TheVariants.{Legal}
 use Rattle.description_stages.specs.declared.planning.PlannedDescription.{PlannedDescription}
 use Rattle.description_stages.specs.Plans.{IsPlanRefusalOf, IsPlannedOf}
 use Rattle.plan_text.specs.Lines.{plan_text}
@@ -26,7 +26,7 @@ use Rattle.commands.specs.Carrying.{CarriesOut}
 use Rattle.commands.specs.Commands.{Bytes, Command, check, header, plan}
 use Rattle.commands.specs.CheckCommand.{IsCheckedAs}
 use Rattle.commands.specs.Inputs.{AreInputs}
-use Rattle.check_definitions.specs.Verdicts.{IsVerdict}
+use Rattle.trace_reading.specs.Verdicts.{IsVerdict}
 use Rattle.commands.specs.Judging.{IsBadScript, IsFound, IsNotLegal, IsNotPaired, IsNotPlanned, IsNotRun, IsNotServed, IsRefusedTrace, stopped_at}
 use Rattle.commands.specs.HeaderCommand.{SaysHeader}
 use Rattle.commands.specs.LiveCommand.{IsLiveFinding}

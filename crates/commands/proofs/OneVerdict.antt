@@ -6,10 +6,10 @@ use Rattle.rte_text.specs.declared.refusal.Refused.TheVariants.{Rule}
 use Rattle.bus_semantics.specs.declared.script.Mapping.{Mapping}
 use Rattle.bus_semantics.specs.Plan.{Plan, plan_of}
 use Rattle.bus_semantics.specs.Sound.{IsSound}
-use Rattle.check_definitions.specs.declared.checked.Checked.{Checked}
-use Rattle.check_definitions.specs.declared.checked.Checked.TheVariants.{Legal}
-use Rattle.check_definitions.specs.Verdicts.{IsVerdict}
-use Rattle.check_definitions.specs.Laws.{TracesHaveOneVerdict}
+use Rattle.trace_reading.specs.declared.checked.Checked.{Checked}
+use Rattle.trace_reading.specs.declared.checked.Checked.TheVariants.{Legal}
+use Rattle.trace_reading.specs.Verdicts.{IsVerdict}
+use Rattle.trace_reading.specs.Laws.{TracesHaveOneVerdict}
 use Rattle.description_stages.specs.declared.planning.PlannedDescription.{PlannedDescription}
 use Rattle.description_stages.specs.Plans.{IsPlannedOf, IsPlanRefusalOf}
 use Rattle.feed_queue.specs.Reading.{first_bad as bad_stimulus}

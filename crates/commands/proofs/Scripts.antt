@@ -9,10 +9,10 @@ use Rattle.bus_semantics.specs.Wanted.{to_tick}
 use Rattle.bus_semantics.specs.Run.{Item, made, run_begins, run_closes, Session, Ordered, IsSessionOf, IsBeginningOf, orders_of_line, orders_of_script}
 use Rattle.bus_semantics.specs.Run as run
 use Rattle.bus_semantics.specs.Spelling.{Letters}
-use Rattle.check_definitions.specs.declared.checked.Checked.{Checked}
-use Rattle.check_definitions.specs.declared.checked.Checked.TheVariants.{Legal, BadLine, Illegal}
-use Rattle.check_definitions.specs.Refusals.{IsRefused}
-use Rattle.check_definitions.specs.Verdicts.{IsVerdict, GoesOn}
+use Rattle.trace_reading.specs.declared.checked.Checked.{Checked}
+use Rattle.trace_reading.specs.declared.checked.Checked.TheVariants.{Legal, BadLine, Illegal}
+use Rattle.trace_reading.specs.Refusals.{IsRefused}
+use Rattle.trace_reading.specs.Verdicts.{IsVerdict, GoesOn}
 use Rattle.script_reading.specs.Meaning.{Asked, asked_of}
 use Rattle.script_reading.specs.Meaning as asked
 use Rattle.script_reading.specs.Reading.{IsScript}

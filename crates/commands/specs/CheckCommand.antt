@@ -3,9 +3,9 @@ use Rattle.std.specs.Prelude.{◌≢◌, List}
 use Rattle.rte_text.specs.declared.refusal.Refused.TheVariants.{Rule}
 use Rattle.bus_semantics.specs.declared.script.Line.{Line}
 use Rattle.bus_semantics.specs.Plan.{plan_of}
-use Rattle.check_definitions.specs.declared.checked.Checked.{Checked}
-use Rattle.check_definitions.specs.declared.checked.Checked.TheVariants.{Legal}
-use Rattle.check_definitions.specs.Verdicts.{IsVerdict}
+use Rattle.trace_reading.specs.declared.checked.Checked.{Checked}
+use Rattle.trace_reading.specs.declared.checked.Checked.TheVariants.{Legal}
+use Rattle.trace_reading.specs.Verdicts.{IsVerdict}
 use Rattle.description_stages.specs.declared.planning.PlannedDescription.{PlannedDescription}
 use Rattle.description_stages.specs.Plans.{IsPlanRefusalOf}
 use Rattle.commands.specs.declared.stop.Finding.{Finding}

@@ -5,8 +5,8 @@ use Rattle.rte_text.specs.declared.refusal.Refused.TheVariants.{Memory, Rule}
 use Rattle.bus_semantics.specs.declared.script.Line.{Line}
 use Rattle.bus_semantics.specs.declared.script.Mapping.{Mapping}
 use Rattle.bus_semantics.specs.Plan.{Plan}
-use Rattle.check_definitions.specs.declared.checked.Checked.TheVariants.{Legal}
-use Rattle.check_definitions.specs.Verdicts.{IsVerdict}
+use Rattle.trace_reading.specs.declared.checked.Checked.TheVariants.{Legal}
+use Rattle.trace_reading.specs.Verdicts.{IsVerdict}
 use Rattle.line_fields.specs.Texts.{lines_of}
 use Rattle.script_reading.specs.Meaning.{saying}
 use Rattle.script_reading.specs.Reading.{first_bad}

@@ -3,8 +3,8 @@ use Rattle.std.specs.Prelude.{◌≡◌, ◌<◌, ◌^◌, ◌⊎◌, ℕ, ◌++
 use Rattle.rte_text.specs.declared.sink.Put.{Put}
 use Rattle.rte_text.specs.declared.sink.Put.TheVariants as put
 use Rattle.rte_text.specs.Sinks.{ToldAfter, SinkFaultsAfter}
-use Rattle.check_definitions.specs.declared.checked.Checked.{Checked}
-use Rattle.check_definitions.specs.declared.checked.Checked.TheVariants.{Legal, BadLine, Illegal}
+use Rattle.trace_reading.specs.declared.checked.Checked.{Checked}
+use Rattle.trace_reading.specs.declared.checked.Checked.TheVariants.{Legal, BadLine, Illegal}
 use Rattle.commands.specs.declared.status.Status.{Status}
 use Rattle.commands.specs.declared.status.Status.TheVariants as status
 use Rattle.commands.specs.declared.stop.Stop.{Stop}

@@ -3,7 +3,7 @@ use Rattle.std.specs.Prelude.{◌≡◌, List, [], ◌∷◌}
 use Rattle.commands.specs.declared.status.Status.{Status}
 use Rattle.commands.specs.declared.status.Status.TheVariants as status
 use Rattle.commands.specs.declared.stop.Finding.{Finding}
-use Rattle.check_definitions.specs.declared.checked.Checked.TheVariants.{Legal}
+use Rattle.trace_reading.specs.declared.checked.Checked.TheVariants.{Legal}
 use Rattle.commands.specs.Commands.{Bytes, Command, run, plan, header, soak, check, pair, live}
 use Rattle.commands.specs.Texts.{checked_text, finding_status, finding_text}
 use Rattle.commands.specs.RunCommand.{CanRun, IsRunFinding, SaysRun, BeginsRun}

@@ -6,9 +6,9 @@ ghost use Rattle.commands.specs.Texts.{checked_text, clash_text, refusal_of_text
 
 use crate::status::Status;
 use crate::stop::{Finding, Stop};
-use check_definitions::Checked;
 use rte_text::{LineBuf, Put, Refusal, Sink, Text};
 use std::alloc::{AllocError, Global};
+use trace_reading::Checked;
 
 /// The text of a refusal up to its place, however long that is.
 fn begin_refusal(alloc: Global, refusal: &Refusal) -> Result<Vec<u8>, AllocError>

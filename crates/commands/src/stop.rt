@@ -1,7 +1,7 @@
 //! Why nothing is carried out.
 
-use check_definitions::Checked;
 use rte_text::{Refusal, Text};
+use trace_reading::Checked;
 
 /// Why the files of a command are refused.
 #[derive(Drop)]

@@ -11,11 +11,11 @@ use Rattle.bus_semantics.specs.Plan.{Plan}
 use Rattle.bus_semantics.specs.Reading.{item_fits}
 use Rattle.bus_semantics.specs.Run.{Closing, IsBeginningOf, Item, Session, history_of, idle, made, orders_of_script, run_begins, run_closes, unsettled}
 use Rattle.bus_semantics.specs.Spelling.{Letters, actor_text, closing_text, deed_text, header, item_text, spaced, spelling_of}
-use Rattle.check_definitions.specs.declared.checked.Checked.{Checked}
-use Rattle.check_definitions.specs.declared.checked.Checked.TheVariants.{BadLine, Illegal, Legal}
-use Rattle.check_definitions.specs.Refusals.{IsAccepted, IsRefused}
-use Rattle.check_definitions.specs.Verdicts.{GoesOn, IsVerdict, line_after}
-use Rattle.check_definitions.specs.Laws.{AcceptedItemsGoOn}
+use Rattle.trace_reading.specs.declared.checked.Checked.{Checked}
+use Rattle.trace_reading.specs.declared.checked.Checked.TheVariants.{BadLine, Illegal, Legal}
+use Rattle.trace_reading.specs.Refusals.{IsAccepted, IsRefused}
+use Rattle.trace_reading.specs.Verdicts.{GoesOn, IsVerdict, line_after}
+use Rattle.trace_reading.specs.Laws.{AcceptedItemsGoOn}
 
 -- the line of an item has a character
 closing_some : (word : Closing) → 1 ≤ length (closing_text word)

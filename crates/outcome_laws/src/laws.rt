@@ -9,8 +9,8 @@ ghost use Rattle.script_reading.specs.Reserved.{saying_around};
 ghost use Rattle.outcome_laws.specs.Outcomes.{HasBadLine, HasPlan, HasRefusal, HasScript, HasVerdict};
 
 use crate::flat::descriptions_are_made_flat_or_refused;
-use check_definitions::accepted_items_go_on;
 use description_stages::{plans_are_sound, read_descriptions_are_well_formed};
+use trace_reading::accepted_items_go_on;
 
 /// The bytes of a file have a plan or are refused by a rule. A file has at most 8 MiB. With `plan_laws` they have exactly one of
 /// these.

@@ -6,7 +6,7 @@ use Rattle.bus_semantics.specs.declared.script.Mapping.{Mapping}
 use Rattle.bus_semantics.specs.declared.version.Version.TheVariants.{Two}
 use Rattle.bus_semantics.specs.Plan.{Plan, plan_of}
 use Rattle.bus_semantics.specs.Run.{Session, IsLegalRun}
-use Rattle.check_definitions.specs.Verdicts.{IsLegalTrace}
+use Rattle.trace_reading.specs.Verdicts.{IsLegalTrace}
 use Rattle.core_runtime.specs.Nodes.{NodeState}
 use Rattle.description_stages.specs.declared.planning.PlannedDescription.{PlannedDescription}
 use Rattle.script_run.specs.Legal.{IsLegalFrom}

@@ -1,21 +1,20 @@
 //! The command `check C T S`.
 
 ghost use Rattle.std.specs.Prelude.{◌≡◌, ◌≤◌, ◌∷◌, ℕ, List, [], length, IfErr, OnOk};
-ghost use Rattle.check_definitions.specs.declared.checked.Checked.TheVariants.{Legal};
+ghost use Rattle.trace_reading.specs.declared.checked.Checked.TheVariants.{Legal};
 ghost use Rattle.bus_semantics.specs.Plan.{plan_of};
-ghost use Rattle.check_definitions.specs.Verdicts.{IsVerdict};
+ghost use Rattle.trace_reading.specs.Verdicts.{IsVerdict};
 ghost use Rattle.commands.specs.Carrying.{world, CarriesOut, Ends};
 ghost use Rattle.commands.specs.Inputs.{AreInputs};
 ghost use Rattle.commands.specs.CheckCommand.{IsCheckedAs};
 ghost use Rattle.commands.specs.Commands.{check};
 ghost use Rattle.commands.specs.Judging.{IsNotLegal, IsRefusedTrace};
 
-use check_definitions::Checked;
 use commands::{Finding, Prepared, Status, Stop, fetch_all, judge, put_text, report};
 use rte_text::{Shelf, Sink};
 use std::alloc::Global;
 use trace_check::check_trace;
-use trace_reading::items_have_one_line;
+use trace_reading::{Checked, items_have_one_line};
 
 /// Checks the trace as that of a run of the script. Ok if it is legal.
 fn check_over(alloc: Global, prepared: &Prepared, trace: &[u8]) -> Result<(), Stop>

@@ -5,12 +5,12 @@ ghost use Rattle.bus_semantics.specs.declared.script.Line.{Line};
 ghost use Rattle.bus_semantics.specs.declared.script.Mapping.{Mapping};
 ghost use Rattle.bus_semantics.specs.Plan.{Plan};
 ghost use Rattle.bus_semantics.specs.Sound.{IsSound};
-ghost use Rattle.check_definitions.specs.declared.checked.Checked.{Checked};
-ghost use Rattle.check_definitions.specs.declared.checked.Checked.TheVariants.{Legal};
-ghost use Rattle.check_definitions.specs.Verdicts.{IsLegalTrace, IsVerdict};
+ghost use Rattle.trace_reading.specs.declared.checked.Checked.{Checked};
+ghost use Rattle.trace_reading.specs.declared.checked.Checked.TheVariants.{Legal};
+ghost use Rattle.trace_reading.specs.Verdicts.{IsLegalTrace, IsVerdict};
 ghost use Rattle.commands.specs.RunCommand.{IsTextOfRun};
 
-use check_definitions::traces_have_one_verdict;
+use trace_reading::traces_have_one_verdict;
 
 /// What a run puts is a legal trace of its script, and no other verdict on it is right.
 pub fn runs_are_legal_traces()

@@ -10,7 +10,7 @@ use Rattle.bus_semantics.specs.Wanted.{wanted_by}
 use Rattle.bus_semantics.specs.Fitting.{fits}
 use Rattle.bus_semantics.specs.History.{is_environment}
 use Rattle.bus_semantics.specs.Run.{Closing, Ordered, Session, a_call, unsettled, made, run_begins, run_closes, Holds, IsBeginningOf, IsSessionOf, history_of, is_inside, is_placed, made_in_line, orders_of, orders_of_script}
-use Rattle.check_definitions.specs.Refusals.{IsRefused}
+use Rattle.trace_reading.specs.Refusals.{IsRefused}
 use Rattle.trace_check.specs.declared.rules.Rules.{Rules}
 use Rattle.trace_check.specs.declared.bus_state.BusState.{BusState}
 use Rattle.trace_check.specs.declared.check.Check.{Check}

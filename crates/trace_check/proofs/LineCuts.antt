@@ -6,7 +6,7 @@ use Rattle.std.proofs.lemmas.List.Folds.{list_all-append}
 use Rattle.bus_semantics.specs.declared.version.Version.{Version}
 use Rattle.bus_semantics.specs.declared.version.Version.TheVariants.{One, Two}
 use Rattle.bus_semantics.specs.Spelling.{Letters, header}
-use Rattle.check_definitions.proofs.Cuts.{cut}
+use Rattle.trace_reading.proofs.Cuts.{cut}
 use Rattle.trace_reading.specs.Reads.{IsOneLine}
 use Rattle.trace_check.specs.FirstLines.{Ends, IsFirstLine, is_unbroken}
 

@@ -17,7 +17,7 @@ use Rattle.bus_semantics.specs.Legal.{IsLegal, broken_clause}
 use Rattle.bus_semantics.specs.Rest.{none_runs}
 use Rattle.bus_semantics.specs.Run.{Session, IsLegalRun, history_of, made, run_begins, run_closes}
 use Rattle.bus_semantics.specs.Sound.{IsSound}
-use Rattle.check_definitions.proofs.Clauses.{unbroken}
+use Rattle.trace_reading.proofs.Clauses.{unbroken}
 use Rattle.port_objects.specs.declared.object.Object.{Object}
 use Rattle.port_objects.specs.Objects.{ArePlans}
 use Rattle.task_machine.specs.declared.instr.TaskSet.{TaskSet}

@@ -7,8 +7,8 @@ use Rattle.bus_semantics.specs.declared.version.Version.{Version}
 use Rattle.bus_semantics.specs.Reading.{IsReadingOf, item_fits}
 use Rattle.bus_semantics.specs.Run.{Item, Session, IsSessionOf, made, run_begins, run_closes, idle, unsettled}
 use Rattle.bus_semantics.specs.Spelling.{Letters, header, item_text, spelling_of}
-use Rattle.check_definitions.specs.declared.checked.Checked.TheVariants.{Legal, BadLine, Illegal}
-use Rattle.check_definitions.specs.Verdicts.{GoesOn}
+use Rattle.trace_reading.specs.declared.checked.Checked.TheVariants.{Legal, BadLine, Illegal}
+use Rattle.trace_reading.specs.Verdicts.{GoesOn}
 use Rattle.trace_reading.specs.Reads.{ItemsHaveOneLine, Reads}
 use Rattle.trace_reading.specs.declared.reading.LineRead.{LineRead}
 use Rattle.trace_reading.specs.declared.reading.LineRead.TheVariants as read

@@ -6,10 +6,10 @@ use Rattle.bus_semantics.specs.declared.script.Mapping.{Mapping}
 use Rattle.bus_semantics.specs.declared.version.Version.{Version}
 use Rattle.bus_semantics.specs.Plan.{Plan}
 use Rattle.bus_semantics.specs.Spelling.{Letters, header}
-use Rattle.check_definitions.specs.declared.checked.Checked.{Checked}
-use Rattle.check_definitions.specs.declared.checked.Checked.TheVariants.{Legal}
-use Rattle.check_definitions.specs.Verdicts.{HasNoHeader, IsLegalTrace, IsVerdict}
-use Rattle.check_definitions.specs.Laws.{TracesHaveOneVerdict}
+use Rattle.trace_reading.specs.declared.checked.Checked.{Checked}
+use Rattle.trace_reading.specs.declared.checked.Checked.TheVariants.{Legal}
+use Rattle.trace_reading.specs.Verdicts.{HasNoHeader, IsLegalTrace, IsVerdict}
+use Rattle.trace_reading.specs.Laws.{TracesHaveOneVerdict}
 use Rattle.trace_check.specs.FirstLines.{IsFirstLine}
 use Rattle.trace_check.proofs.LineCuts.{first_is, header_is_line}
 

@@ -3,7 +3,7 @@ use Rattle.std.specs.Prelude.{◌≡◌, ℕ, min, ◌∷◌, true}
 use Rattle.bus_semantics.specs.Plan.{Plan}
 use Rattle.bus_semantics.specs.Reading.{item_fits}
 use Rattle.bus_semantics.specs.Run.{Item, Session, IsLegalRun, history_of, idle, is_inside, made, made_in_line, run_begins, run_closes, unsettled}
-use Rattle.check_definitions.specs.Refusals.{IsRefused}
+use Rattle.trace_reading.specs.Refusals.{IsRefused}
 use Rattle.trace_reading.specs.declared.reading.LineRead.{LineRead}
 use Rattle.trace_reading.specs.declared.reading.LineRead.TheVariants as read
 use Rattle.trace_check.specs.declared.rules.Rules.{Rules}

@@ -3,8 +3,8 @@ use Rattle.std.specs.Prelude.{◌≡◌, ℕ}
 use Rattle.bus_semantics.specs.declared.version.Version.{Version}
 use Rattle.bus_semantics.specs.Run.{Session}
 use Rattle.bus_semantics.specs.Spelling.{Letters}
-use Rattle.check_definitions.specs.declared.checked.Checked.{Checked}
-use Rattle.check_definitions.specs.Verdicts.{GoesOn, IsVerdict, line_after}
+use Rattle.trace_reading.specs.declared.checked.Checked.{Checked}
+use Rattle.trace_reading.specs.Verdicts.{GoesOn, IsVerdict, line_after}
 use Rattle.trace_check.specs.declared.rules.Rules.{Rules}
 use Rattle.trace_check.specs.declared.check.Check.{Check}
 use Rattle.trace_check.specs.Along.{plan_in}

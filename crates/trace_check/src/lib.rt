@@ -25,5 +25,5 @@ mod script;
 mod seen;
 mod trace;
 
-pub use check_definitions::Checked;
 pub use trace::check_trace;
+pub use trace_reading::Checked;

@@ -3,7 +3,7 @@
 ghost use Rattle.std.specs.Prelude.{◌≡◌, ◌++◌, IfOk, IfSome, true};
 ghost use Rattle.bus_semantics.specs.Run.{Session};
 ghost use Rattle.bus_semantics.specs.Spelling.{Letters, header};
-ghost use Rattle.check_definitions.specs.declared.checked.Checked.TheVariants.{Legal};
+ghost use Rattle.trace_reading.specs.declared.checked.Checked.TheVariants.{Legal};
 ghost use Rattle.trace_check.specs.Along.{AreSound};
 ghost use Rattle.trace_check.specs.Checking.{CanJudge, Stands};
 ghost use Rattle.trace_check.specs.Lines.{VerdictOf};

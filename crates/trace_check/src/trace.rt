@@ -4,8 +4,8 @@ ghost use Rattle.std.specs.Prelude.{◌≡◌, ◌↔◌, ◌++◌, IfOk, []};
 ghost use Rattle.bus_semantics.specs.Plan.{plan_of};
 ghost use Rattle.bus_semantics.specs.Sound.{IsSound};
 ghost use Rattle.bus_semantics.specs.Spelling.{Letters, header};
-ghost use Rattle.check_definitions.specs.declared.checked.Checked.TheVariants.{Legal};
-ghost use Rattle.check_definitions.specs.Verdicts.{IsLegalTrace, IsVerdict};
+ghost use Rattle.trace_reading.specs.declared.checked.Checked.TheVariants.{Legal};
+ghost use Rattle.trace_reading.specs.Verdicts.{IsLegalTrace, IsVerdict};
 ghost use Rattle.trace_check.specs.Along.{AreSound};
 ghost use Rattle.trace_check.specs.Lines.{Reaches, VerdictOf};
 
@@ -14,11 +14,12 @@ use crate::lines::{first_line, version_of};
 use crate::quick::is_legal_at_once;
 use crate::rules::Rules;
 use bus_semantics::{BusPlan, Mapping, Script, Version};
-use check_definitions::{Checked, traces_have_one_verdict};
 use rte_text::{LineBuf, Memory};
 use std::alloc::Global;
 use task_generator::generate;
-use trace_reading::{Reader, items_have_one_line, sound_plans_are_readable};
+use trace_reading::{
+    Checked, Reader, items_have_one_line, sound_plans_are_readable, traces_have_one_verdict,
+};
 
 /// What the end of a trace comes to, which is this line.
 fn end(rules: &Rules<'_, '_>, check: &Check<'_>, line: u64) -> Checked

@@ -16,3 +16,7 @@ pub mod Things
 pub mod Values
 pub mod Visible
 mod Marks
+pub mod Clauses
+mod Accepted
+pub mod Cuts
+mod Reached

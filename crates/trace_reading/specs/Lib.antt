@@ -9,3 +9,6 @@ pub mod Pieces
 pub mod Readable
 pub mod Reads
 pub mod Tables
+pub mod Refusals
+pub mod Verdicts
+pub mod Laws

@@ -1,4 +1,4 @@
-use Rattle.check_definitions.specs.declared.checked.Checked.TheVariants.{Legal}
+use Rattle.trace_reading.specs.declared.checked.Checked.TheVariants.{Legal}
 use Rattle.rte_program.proofs.Ran.{is_legal}
 use Rattle.rte_program.proofs.laws.runs_are_legal_traces.Goals as goal
 

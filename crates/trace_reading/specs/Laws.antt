@@ -6,9 +6,9 @@ use Rattle.bus_semantics.specs.Plan.{Plan}
 use Rattle.bus_semantics.specs.Reading.{item_fits}
 use Rattle.bus_semantics.specs.Run.{Item, Session, IsBegunRunOf}
 use Rattle.bus_semantics.specs.Spelling.{Letters}
-use Rattle.check_definitions.specs.declared.checked.Checked.{Checked}
-use Rattle.check_definitions.specs.Refusals.{IsAccepted, IsRefused}
-use Rattle.check_definitions.specs.Verdicts.{IsVerdict}
+use Rattle.trace_reading.specs.declared.checked.Checked.{Checked}
+use Rattle.trace_reading.specs.Refusals.{IsAccepted, IsRefused}
+use Rattle.trace_reading.specs.Verdicts.{IsVerdict}
 
 -- an item that fits goes on a begun legal run exactly if it is accepted after it
 abbrev pub AcceptedItemsGoOn : Plan → Mapping → Type 0

@@ -3,9 +3,9 @@
 ghost use Rattle.bus_semantics.specs.declared.script.Mapping.{Mapping};
 ghost use Rattle.bus_semantics.specs.Plan.{Plan};
 ghost use Rattle.bus_semantics.specs.Sound.{IsSound};
-ghost use Rattle.check_definitions.specs.Laws.{AcceptedItemsGoOn, RefusedForOneClause, RefusedIsNotAccepted, TracesHaveOneVerdict};
+ghost use Rattle.trace_reading.specs.Laws.{AcceptedItemsGoOn, RefusedForOneClause, RefusedIsNotAccepted, TracesHaveOneVerdict};
 
-use trace_reading::{items_have_one_line, lines_have_one_reading};
+use crate::laws::{items_have_one_line, lines_have_one_reading};
 
 /// An item that fits the plan makes a begun legal run a longer one exactly if it is accepted after it. None is both accepted and
 /// refused, and each is refused for one clause. This holds of every plan, sound or not.

@@ -1,5 +1,5 @@
-use Rattle.check_definitions.proofs.Accepted.{goes_on, was_accepted, not_both, one_clause}
-use Rattle.check_definitions.proofs.laws.accepted_items_go_on.Goals as goal
+use Rattle.trace_reading.proofs.Accepted.{goes_on, was_accepted, not_both, one_clause}
+use Rattle.trace_reading.proofs.verdict_laws.accepted_items_go_on.Goals as goal
 
 pub returns-clause-go_on : goal.returns-clause-go_on
 returns-clause-go_on c = λ p m script s i begun fit. (goes_on p m script s i begun fit, was_accepted p m script s i)

@@ -11,12 +11,12 @@ use Rattle.bus_semantics.specs.Reading.{item_fits}
 use Rattle.bus_semantics.specs.Run.{Item, made, run_begins, run_closes, Session, IsSessionOf, IsBegunRunOf, orders_of, orders_of_entry, a_run}
 use Rattle.bus_semantics.specs.Spelling.{Letters, header, item_text, spelling_of}
 use Rattle.trace_reading.specs.Reads.{ItemsHaveOneLine, LinesHaveOneReading}
-use Rattle.check_definitions.specs.declared.checked.Checked.{Checked}
-use Rattle.check_definitions.specs.declared.checked.Checked.TheVariants.{Legal, BadLine, Illegal}
-use Rattle.check_definitions.specs.Refusals.{IsRefused}
-use Rattle.check_definitions.specs.Verdicts.{GoesOn, IsVerdict, line_after}
-use Rattle.check_definitions.proofs.Accepted.{was_accepted, not_both, one_clause}
-use Rattle.check_definitions.proofs.Cuts.{texts, onto, oldest, onto-append, onto-oldest, spelt, all_oldest, level, first_longer, second_longer, same_line, some_text, compare, one_and_two}
+use Rattle.trace_reading.specs.declared.checked.Checked.{Checked}
+use Rattle.trace_reading.specs.declared.checked.Checked.TheVariants.{Legal, BadLine, Illegal}
+use Rattle.trace_reading.specs.Refusals.{IsRefused}
+use Rattle.trace_reading.specs.Verdicts.{GoesOn, IsVerdict, line_after}
+use Rattle.trace_reading.proofs.Accepted.{was_accepted, not_both, one_clause}
+use Rattle.trace_reading.proofs.Cuts.{texts, onto, oldest, onto-append, onto-oldest, spelt, all_oldest, level, first_longer, second_longer, same_line, some_text, compare, one_and_two}
 
 -- ---- a beginning of a begun run is one
 

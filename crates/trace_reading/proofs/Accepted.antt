@@ -8,8 +8,8 @@ use Rattle.bus_semantics.specs.Plan.{Plan}
 use Rattle.bus_semantics.specs.Fitting.{fits}
 use Rattle.bus_semantics.specs.Reading.{item_fits, is_sized, is_sized_actor}
 use Rattle.bus_semantics.specs.Run.{Item, made, run_begins, run_closes, Session, history_of, is_inside, is_placed, IsBegunRunOf}
-use Rattle.check_definitions.specs.Refusals.{IsAccepted, IsRefused}
-use Rattle.check_definitions.proofs.Clauses.{unbroken, breaks_none}
+use Rattle.trace_reading.specs.Refusals.{IsAccepted, IsRefused}
+use Rattle.trace_reading.proofs.Clauses.{unbroken, breaks_none}
 
 fitting : (p : Plan) (e : Entry) → item_fits p (made e) ≡ true → fits p e ≡ true
 fitting p e fit = (and_parts (fits p e) (is_sized_actor e.actor && is_sized e.deed) fit).0

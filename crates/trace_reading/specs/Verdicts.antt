@@ -9,9 +9,9 @@ use Rattle.bus_semantics.specs.Plan.{Plan}
 use Rattle.bus_semantics.specs.Reading.{item_fits}
 use Rattle.bus_semantics.specs.Run.{Item, Session, IsSessionOf, IsRunOf, IsBegunRunOf}
 use Rattle.bus_semantics.specs.Spelling.{Letters, Spells, header, item_text, spelling_of}
-use Rattle.check_definitions.specs.declared.checked.Checked.{Checked}
-use Rattle.check_definitions.specs.declared.checked.Checked.TheVariants.{Legal, BadLine, Illegal}
-use Rattle.check_definitions.specs.Refusals.{IsRefused}
+use Rattle.trace_reading.specs.declared.checked.Checked.{Checked}
+use Rattle.trace_reading.specs.declared.checked.Checked.TheVariants.{Legal, BadLine, Illegal}
+use Rattle.trace_reading.specs.Refusals.{IsRefused}
 
 -- ---- legal
 

@@ -1,4 +1,0 @@
-pub mod Clauses
-mod Accepted
-pub mod Cuts
-mod Reached
