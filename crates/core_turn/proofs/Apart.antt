@@ -16,7 +16,7 @@ use Rattle.bus_semantics.specs.declared.plan.EventPlan.{EventPlan}
 use Rattle.bus_semantics.specs.SoundPlan.{is_in, same_numbers}
 use Rattle.bus_semantics.specs.SoundNames.{is_name}
 use Rattle.bus_laws.proofs.Thinning.{option_same}
-use Rattle.activation_laws.specs.LookUps.{clash, looked}
+use Rattle.history_laws.specs.LookUps.{clash, looked}
 use Rattle.history_laws.proofs.Lists.{there_is}
 use Rattle.bus_semantics.specs.Sound.{mapped_events, times_mapped, tasks_of, IsSound}
 use Rattle.bus_semantics.specs.declared.entries.Actor.{Actor}

@@ -26,7 +26,7 @@ use Rattle.core_turn.specs.Cores.{CoreState, tasks_of_core, task_tables, machine
 use Rattle.core_turn.specs.Made.{IsNewSlot, AreNew}
 use Rattle.core_turn.specs.Ready.{IsReady}
 use Rattle.core_turn.specs.Standing.{CoreStands}
-use Rattle.activation_laws.specs.LookUps.{all_at}
+use Rattle.history_laws.specs.LookUps.{all_at}
 use Rattle.history_laws.proofs.Lists as lists
 use Rattle.task_slots.proofs.Onward.{count_on}
 use Rattle.core_turn.proofs.Apart.{tasks_fit, some_counts}

@@ -18,7 +18,7 @@ use Rattle.bus_semantics.specs.SoundNames.{is_name}
 use Rattle.bus_semantics.specs.Sound.{mapped_events, times_mapped, IsSound}
 use Rattle.bus_laws.proofs.OneEvent.{kind_at}
 use Rattle.bus_laws.proofs.Thinning.{option_test}
-use Rattle.activation_laws.specs.LookUps.{all_at, at_place}
+use Rattle.history_laws.specs.LookUps.{all_at, at_place}
 use Rattle.history_laws.proofs.Lists.{there_is}
 use Rattle.task_slots.specs.Slots.{starts, is_key_of}
 use Rattle.task_slots.specs.Ready.{may_be_mapped}

@@ -33,7 +33,7 @@ use Rattle.bus_semantics.specs.Pasts.{Follows, IsPastOf}
 use Rattle.bus_semantics.specs.Sound.{IsSound, times_mapped}
 use Rattle.bus_laws.proofs.OneEvent.{invoked_serves}
 use Rattle.bus_laws.proofs.Thinning.{option_same, option_test}
-use Rattle.activation_laws.specs.LookUps.{clash}
+use Rattle.history_laws.specs.LookUps.{clash}
 use Rattle.history_laws.specs.Callers.{CallerWaits}
 use Rattle.history_laws.specs.Running.{GoesOn}
 use Rattle.history_laws.proofs.Keys.{wish_runs}

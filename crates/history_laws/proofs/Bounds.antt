@@ -27,7 +27,7 @@ use Rattle.bus_semantics.specs.SoundElements.{machine_sound}
 use Rattle.bus_semantics.specs.Pasts.{IsPastOf}
 use Rattle.bus_laws.proofs.Thinning.{noting, option_same}
 use Rattle.bus_laws.proofs.LocalServers.{answer_part}
-use Rattle.activation_laws.specs.LookUps.{all_at}
+use Rattle.history_laws.specs.LookUps.{all_at}
 use Rattle.history_laws.proofs.Lists.{AtEnd, earlier, last, at_end}
 
 pub proper_past : (p : Plan) (object : ℕ) (l : Past) → IsPastOf p object l → list_all (is_proper p) l ≡ true

@@ -33,8 +33,8 @@ use Rattle.bus_semantics.specs.Locality.{is_proper}
 use Rattle.bus_semantics.specs.Legal.{MayFollow, IsLegal}
 use Rattle.bus_semantics.specs.SoundEvents.{direct_sound}
 use Rattle.bus_semantics.specs.Sound.{IsSound}
-use Rattle.activation_laws.specs.LookUps.{looked, all_at, at_place}
-use Rattle.activation_laws.proofs.Asking.{calls_none}
+use Rattle.history_laws.specs.LookUps.{looked, all_at, at_place}
+use Rattle.history_laws.proofs.Asking.{calls_none}
 use Rattle.bus_laws.proofs.Thinning.{clash, option_same, sought_where}
 use Rattle.bus_laws.proofs.Local.{proper_legal}
 use Rattle.bus_laws.proofs.OneEvent.{invoked_serves, serves_invoked}

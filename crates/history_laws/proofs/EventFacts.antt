@@ -23,7 +23,7 @@ use Rattle.bus_semantics.specs.Owners.{serves_directly, key_fits}
 use Rattle.bus_semantics.specs.SoundElements.{limits_fit}
 use Rattle.bus_semantics.specs.SoundEvents.{kind_sound, requires_machine, may_be_disabled, disabling_sound, event_sound}
 use Rattle.bus_semantics.specs.Sound.{IsSound}
-use Rattle.activation_laws.specs.LookUps.{sought, all_at, at_place}
+use Rattle.history_laws.specs.LookUps.{sought, all_at, at_place}
 use Rattle.bus_laws.proofs.OneEvent.{serves_invoked, kind_at}
 
 required : (n most : ℕ) (home : Option ℕ) (ts : List ModePortPlan) → list_all (λ (t : ModePortPlan). nat_lt t.machine most) ts ≡ true

@@ -6,8 +6,8 @@ use Rattle.bus_semantics.specs.Plan.{Plan}
 use Rattle.bus_semantics.specs.History.{History, runs}
 use Rattle.bus_semantics.specs.Legal.{IsLegal}
 use Rattle.bus_semantics.specs.Sound.{IsSound}
-use Rattle.activation_laws.specs.Followed.{IsActivation}
-use Rattle.activation_laws.proofs.Asking.{goes_on_asking, fits, own}
+use Rattle.history_laws.specs.Followed.{IsActivation}
+use Rattle.history_laws.proofs.Asking.{goes_on_asking, fits, own}
 use Rattle.history_laws.specs.Running.{GoesOn}
 use Rattle.history_laws.proofs.Keys.{Alive, alive, alive_next}
 

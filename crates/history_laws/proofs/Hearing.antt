@@ -22,9 +22,9 @@ use Rattle.bus_semantics.specs.Actor.{Activation, with_deed, activation_of, next
 use Rattle.bus_semantics.specs.Calls.{is_request_at, takes_reply_at, is_outstanding}
 use Rattle.bus_semantics.specs.Legal.{MayFollow, IsLegal}
 use Rattle.bus_semantics.specs.Sound.{IsSound}
-use Rattle.activation_laws.specs.LookUps.{sought}
-use Rattle.activation_laws.specs.Wishes.{is_of_a_call, is_awaited}
-use Rattle.activation_laws.proofs.Asking.{fits, calls_none, accepted, awaited}
+use Rattle.history_laws.specs.LookUps.{sought}
+use Rattle.history_laws.specs.Wishes.{is_of_a_call, is_awaited}
+use Rattle.history_laws.proofs.Asking.{fits, calls_none, accepted, awaited}
 use Rattle.bus_laws.proofs.Thinning.{clash, option_same}
 use Rattle.history_laws.proofs.Keys.{mine, itself, grown, Alive, alive, alive_next, wish_runs, IsTo, others, starts, goes_on, is_to, runs_other, activation_mine, activation_other}
 use Rattle.history_laws.proofs.GoingOn.{acting}

@@ -20,7 +20,7 @@ use Rattle.bus_semantics.specs.Objects.{first_area, touches, entries_of}
 use Rattle.bus_semantics.specs.Matching.{is_open, enters_by}
 use Rattle.bus_semantics.specs.Legal.{MayFollow, IsLegal}
 use Rattle.bus_semantics.specs.Sound.{IsSound}
-use Rattle.activation_laws.specs.OpenAreas.{all_but_innermost, open_after, innermost, are_nested}
+use Rattle.history_laws.specs.OpenAreas.{all_but_innermost, open_after, innermost, are_nested}
 use Rattle.bus_laws.proofs.Thinning.{clash, not_same}
 use Rattle.history_laws.specs.Running.{areas_of}
 use Rattle.history_laws.specs.Holding.{is_inside, HasHolder}

@@ -22,9 +22,9 @@ use Rattle.bus_semantics.specs.Fitting.{activation_may_want, answer_fits, fits}
 use Rattle.bus_semantics.specs.Activations.{next_of_activity}
 use Rattle.bus_semantics.specs.Actor.{Activation, with_deed, activation_of, next_wish, caller_has_asked, may_start, is_wanted_next, is_held_back, starts_or_goes_on, follows_program}
 use Rattle.bus_semantics.specs.Legal.{MayFollow, IsLegal}
-use Rattle.activation_laws.specs.Followed.{Followed}
-use Rattle.activation_laws.specs.Following.{followed_none, followed_more}
-use Rattle.activation_laws.specs.LookUps.{looked}
+use Rattle.history_laws.specs.Followed.{Followed}
+use Rattle.history_laws.specs.Following.{followed_none, followed_more}
+use Rattle.history_laws.specs.LookUps.{looked}
 use Rattle.bus_laws.proofs.Thinning.{option_same, there_is}
 use Rattle.history_laws.proofs.Lists.{all_more}
 

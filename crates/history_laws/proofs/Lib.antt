@@ -22,3 +22,17 @@ pub mod OpenCalls
 pub mod Queues
 pub mod Directs
 pub mod Hearing
+pub mod Trails
+pub mod Runs
+pub mod Served
+pub mod Words
+pub mod Asked
+pub mod Accesses
+pub mod Entering
+pub mod ActivationLists
+pub mod Marks
+pub mod Statements
+pub mod Wholes
+pub mod Fitting
+pub mod Asking
+pub mod SoundServers

@@ -22,7 +22,7 @@ use Rattle.bus_semantics.specs.Matching.{start_matches, matches}
 use Rattle.bus_semantics.specs.Legal.{admission_allows, Answers, MayFollow, IsLegal}
 use Rattle.bus_semantics.specs.Asked.{MayCome}
 use Rattle.bus_semantics.specs.Sound.{IsSound}
-use Rattle.activation_laws.proofs.Asking.{begun, end_own, admission_own}
+use Rattle.history_laws.proofs.Asking.{begun, end_own, admission_own}
 use Rattle.bus_laws.proofs.Thinning.{noting, option_same}
 use Rattle.bus_laws.proofs.Local.{touching, proper_legal}
 use Rattle.history_laws.proofs.Keys.{Alive, alive, alive_next, wish_runs}

@@ -27,7 +27,7 @@ use Rattle.bus_semantics.specs.SoundPlan.{is_in, is_distinct, same_numbers}
 use Rattle.bus_semantics.specs.SoundElements.{limits_fit, elem_sound, agrees}
 use Rattle.bus_semantics.specs.SoundLists.{accesses_elem, list_kind, list_sound}
 use Rattle.bus_semantics.specs.Sound.{IsSound}
-use Rattle.activation_laws.specs.LookUps.{sought, looked, all_at}
+use Rattle.history_laws.specs.LookUps.{sought, looked, all_at}
 use Rattle.bus_laws.proofs.Thinning.{noting, option_same}
 use Rattle.bus_laws.proofs.Bundling.{same_lists}
 use Rattle.history_laws.proofs.Bounds.{wish_part}

@@ -28,7 +28,7 @@ use Rattle.bus_semantics.specs.Legal.{IsLegal}
 use Rattle.bus_semantics.specs.SoundElements.{server_sound}
 use Rattle.bus_semantics.specs.SoundEvents.{server_served, serves_back}
 use Rattle.bus_semantics.specs.Sound.{IsSound}
-use Rattle.activation_laws.specs.LookUps.{Sought, sought, looked, at_place}
+use Rattle.history_laws.specs.LookUps.{Sought, sought, looked, at_place}
 use Rattle.bus_laws.proofs.Thinning.{noting, if_same, option_same, sought_where}
 use Rattle.bus_laws.proofs.Local.{proper_legal}
 use Rattle.bus_laws.proofs.OneEvent.{invoked_serves, serves_invoked}

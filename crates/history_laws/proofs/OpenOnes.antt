@@ -14,9 +14,9 @@ use Rattle.bus_semantics.specs.Activations.{next_of_activity}
 use Rattle.bus_semantics.specs.Actor.{Activation, activation_of, with_deed}
 use Rattle.bus_semantics.specs.Legal.{MayFollow, IsLegal}
 use Rattle.bus_semantics.specs.Sound.{IsSound}
-use Rattle.activation_laws.specs.OpenAreas.{open_after, open_areas, are_nested, innermost}
-use Rattle.activation_laws.specs.Following.{open_areas_more}
-use Rattle.activation_laws.proofs.Asking.{outside, admission_once, nested, leaves_innermost}
+use Rattle.history_laws.specs.OpenAreas.{open_after, open_areas, are_nested, innermost}
+use Rattle.history_laws.specs.Following.{open_areas_more}
+use Rattle.history_laws.proofs.Asking.{outside, admission_once, nested, leaves_innermost}
 use Rattle.history_laws.specs.Running.{areas_of}
 use Rattle.history_laws.proofs.Keys.{mine, itself, Alive, alive, IsTo, others, starts, goes_on, is_to, grown, runs_mine, activation_mine}
 use Rattle.history_laws.proofs.GoingOn.{acting}

@@ -27,7 +27,7 @@ use Rattle.bus_semantics.specs.Rest.{plain_key}
 use Rattle.bus_semantics.specs.Locality.{is_proper}
 use Rattle.bus_semantics.specs.Legal.{MayFollow, IsLegal}
 use Rattle.bus_semantics.specs.Sound.{IsSound}
-use Rattle.activation_laws.specs.LookUps.{looked}
+use Rattle.history_laws.specs.LookUps.{looked}
 use Rattle.bus_laws.proofs.Thinning.{option_same, there_is}
 use Rattle.bus_laws.proofs.Local.{proper_legal}
 use Rattle.bus_laws.proofs.OneEvent.{invoked_serves}

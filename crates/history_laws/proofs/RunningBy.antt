@@ -29,7 +29,7 @@ use Rattle.bus_semantics.specs.Matching.{is_open, runs_by}
 use Rattle.bus_semantics.specs.Legal.{MayFollow, IsLegal}
 use Rattle.bus_semantics.specs.SoundEvents.{may_be_disabled}
 use Rattle.bus_semantics.specs.Sound.{IsSound}
-use Rattle.activation_laws.proofs.Asking.{admission_first, admission_once, admission_disabled}
+use Rattle.history_laws.proofs.Asking.{admission_first, admission_once, admission_disabled}
 use Rattle.bus_laws.proofs.Thinning.{clash, not_same}
 use Rattle.history_laws.proofs.Lists.{skipped}
 use Rattle.history_laws.proofs.Keys.{mine, itself, begins, grown, none_started, Alive, alive, IsTo, others, starts, goes_on, is_to, fit_key, runs_mine, runs_other, activation_mine, activation_other, started_mine, started_other}

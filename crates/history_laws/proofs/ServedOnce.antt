@@ -26,9 +26,9 @@ use Rattle.bus_semantics.specs.Matching.{is_open, serves_by}
 use Rattle.bus_semantics.specs.Legal.{MayFollow, IsLegal}
 use Rattle.bus_semantics.specs.SoundEvents.{may_be_disabled}
 use Rattle.bus_semantics.specs.Sound.{IsSound}
-use Rattle.activation_laws.specs.Wishes.{is_return}
-use Rattle.activation_laws.specs.LookUps.{looked}
-use Rattle.activation_laws.proofs.Asking.{not_returned, returned, admission_disabled}
+use Rattle.history_laws.specs.Wishes.{is_return}
+use Rattle.history_laws.specs.LookUps.{looked}
+use Rattle.history_laws.proofs.Asking.{not_returned, returned, admission_disabled}
 use Rattle.bus_laws.proofs.Thinning.{noting, clash, if_same, option_test, newest_thin}
 use Rattle.bus_laws.proofs.OneEvent.{serves_invoked}
 use Rattle.bus_laws.proofs.LocalServers.{by_invoked, start_owned}

@@ -21,7 +21,7 @@ use Rattle.bus_semantics.specs.History.{Noted, Past, newest}
 use Rattle.bus_semantics.specs.Unqueued.{is_in_group, last_in, stored_in, last_stored, value_at}
 use Rattle.bus_semantics.specs.Queued.{sent_in, sent_to, is_room, taken_at, places_at, accepted_at, received_at}
 use Rattle.bus_semantics.specs.Calls.{is_request_at, serves, returned_by, returned_to, is_outstanding, answer_to, result_of}
-use Rattle.activation_laws.specs.ValuesOfWords.{value_of}
+use Rattle.history_laws.specs.ValuesOfWords.{value_of}
 use Rattle.bus_laws.proofs.LocalReturns.{newer_returned}
 use Rattle.history_laws.proofs.Lists.{AtEnd, earlier, last, at_end}
 

@@ -22,8 +22,8 @@ use Rattle.bus_semantics.specs.Sound.{IsSound}
 use Rattle.bus_laws.proofs.Thinning.{noting, clash}
 use Rattle.bus_laws.proofs.Local.{proper_legal}
 use Rattle.bus_laws.proofs.OneEvent.{invoked_serves, none_disables}
-use Rattle.activation_laws.specs.OpenAreas.{innermost}
-use Rattle.activation_laws.proofs.Asking.{begun, end_own, admission_own, admission_disabled, leaves_innermost, not_returned}
+use Rattle.history_laws.specs.OpenAreas.{innermost}
+use Rattle.history_laws.proofs.Asking.{begun, end_own, admission_own, admission_disabled, leaves_innermost, not_returned}
 use Rattle.history_laws.proofs.Keys.{Alive}
 use Rattle.history_laws.proofs.GoingOn.{acting}
 use Rattle.history_laws.specs.Running.{areas_of}

@@ -3,3 +3,10 @@ pub mod Holding
 pub mod Serving
 pub mod Coming
 pub mod Callers
+pub mod Followed
+pub mod OpenAreas
+pub mod Given
+pub mod Wishes
+pub mod Following
+pub mod ValuesOfWords
+pub mod LookUps

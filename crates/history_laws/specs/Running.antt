@@ -12,8 +12,8 @@ use Rattle.bus_semantics.specs.Owners.{key_fits}
 use Rattle.bus_semantics.specs.Fitting.{wish_fits}
 use Rattle.bus_semantics.specs.Asked.{asks_its_own}
 use Rattle.bus_semantics.specs.Actor.{Activation, activation_of, next_wish}
-use Rattle.activation_laws.specs.Followed.{AsksNext}
-use Rattle.activation_laws.specs.OpenAreas.{open_areas}
+use Rattle.history_laws.specs.Followed.{AsksNext}
+use Rattle.history_laws.specs.OpenAreas.{open_areas}
 
 -- it was started by an event of its runnable, was answered all that it asked since, and wants something that fits
 pub record GoesOn (p : Plan) (h : History) (k : ActKey) : Type 0 where

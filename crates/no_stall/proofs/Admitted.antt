@@ -22,7 +22,7 @@ use Rattle.bus_semantics.specs.Actor.{Activation, with_deed, activation_of, is_h
 use Rattle.bus_semantics.specs.Rest.{plain_key}
 use Rattle.bus_semantics.specs.Sound.{IsSound}
 use Rattle.bus_laws.proofs.Thinning.{option_same}
-use Rattle.activation_laws.specs.Followed.{AsksNext}
+use Rattle.history_laws.specs.Followed.{AsksNext}
 use Rattle.history_laws.specs.Running.{GoesOn}
 use Rattle.no_stall.proofs.Premises.{Laws}
 use Rattle.no_stall.proofs.Asking.{WasNext, was_next, activity}

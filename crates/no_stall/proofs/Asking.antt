@@ -24,8 +24,8 @@ use Rattle.bus_semantics.specs.Legal.{IsLegal, MayFollow}
 use Rattle.bus_semantics.specs.Actor.{next_wish, accepted_point, asked_last, is_held_back, is_this, starts_or_goes_on}
 use Rattle.bus_semantics.specs.Sound.{IsSound}
 use Rattle.bus_laws.proofs.Thinning.{option_same}
-use Rattle.activation_laws.specs.Followed.{IsActivation}
-use Rattle.activation_laws.specs.Wishes.{is_of_a_call, is_awaited}
+use Rattle.history_laws.specs.Followed.{IsActivation}
+use Rattle.history_laws.specs.Wishes.{is_of_a_call, is_awaited}
 use Rattle.history_laws.specs.Running.{GoesOn}
 use Rattle.no_stall.proofs.Premises.{Laws}
 use Rattle.no_stall.proofs.Keys.{IsDirect, Shape, plain, direct, shape, is_direct}

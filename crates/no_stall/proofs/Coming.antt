@@ -28,7 +28,7 @@ use Rattle.bus_semantics.specs.Legal.{admission_allows, Answers}
 use Rattle.bus_semantics.specs.Actor.{next_wish, is_held_back, is_this, starts_or_goes_on}
 use Rattle.bus_semantics.specs.Asked.{is_start}
 use Rattle.bus_semantics.specs.Rest.{try_of, IsStuck}
-use Rattle.activation_laws.specs.Given.{words_given}
+use Rattle.history_laws.specs.Given.{words_given}
 use Rattle.history_laws.proofs.Values.{Words, few_words, element_words, received_words, answer_words, result_words}
 use Rattle.bus_laws.proofs.Thinning.{same_list, same_flag, same_test}
 

@@ -12,9 +12,9 @@ use Rattle.bus_semantics.specs.Wanted.{to_ask}
 use Rattle.bus_semantics.specs.History.{History, is_of}
 use Rattle.bus_semantics.specs.Actor.{Activation, with_deed, activation_of, accepted_point, last_deed, asked_last}
 use Rattle.bus_semantics.specs.Sound.{IsSound}
-use Rattle.activation_laws.specs.Followed.{Followed}
-use Rattle.activation_laws.specs.OpenAreas.{open_areas}
-use Rattle.activation_laws.specs.Following.{open_areas_more}
+use Rattle.history_laws.specs.Followed.{Followed}
+use Rattle.history_laws.specs.OpenAreas.{open_areas}
+use Rattle.history_laws.specs.Following.{open_areas_more}
 use Rattle.history_laws.specs.Running.{GoesOn}
 use Rattle.no_stall.proofs.Premises.{Laws}
 use Rattle.no_stall.proofs.Asking.{activity}

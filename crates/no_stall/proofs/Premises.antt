@@ -16,10 +16,10 @@ use Rattle.bus_semantics.specs.Calls.{has_unstarted}
 use Rattle.bus_semantics.specs.Owners.{serves_directly}
 use Rattle.bus_semantics.specs.Activations.{next_of_activity}
 use Rattle.bus_semantics.specs.Legal.{IsLegal}
-use Rattle.activation_laws.specs.Followed.{IsActivation, AsksNext, HasJustAsked}
-use Rattle.activation_laws.specs.OpenAreas.{open_areas, comes_outside}
-use Rattle.activation_laws.specs.Given.{words_given}
-use Rattle.activation_laws.specs.Wishes.{is_of_a_call, is_awaited}
+use Rattle.history_laws.specs.Followed.{IsActivation, AsksNext, HasJustAsked}
+use Rattle.history_laws.specs.OpenAreas.{open_areas, comes_outside}
+use Rattle.history_laws.specs.Given.{words_given}
+use Rattle.history_laws.specs.Wishes.{is_of_a_call, is_awaited}
 use Rattle.history_laws.specs.Running.{GoesOn}
 use Rattle.history_laws.specs.Holding.{HasHolder}
 use Rattle.history_laws.specs.Serving.{IsOpen, IsQueuedOrServed, IsBegunOrServed}

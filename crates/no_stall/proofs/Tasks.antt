@@ -16,7 +16,7 @@ use Rattle.bus_semantics.specs.SoundElements.{limits_fit}
 use Rattle.bus_semantics.specs.SoundNames.{is_name}
 use Rattle.bus_semantics.specs.Sound.{mapped_events, times_mapped, tasks_of, waits_for, IsSound}
 use Rattle.bus_laws.proofs.Thinning.{every_at, option_test, found_where, sought_where}
-use Rattle.activation_laws.specs.Wishes.{is_awaited}
+use Rattle.history_laws.specs.Wishes.{is_awaited}
 use Rattle.no_stall.proofs.Lists.{Among, among_gathered, among_positions, among_at, any_from, all_at, counted, gathered_from, place_of}
 
 -- the task in which an event is

@@ -31,9 +31,9 @@ use Rattle.bus_semantics.specs.Sound.{times_mapped, IsSound}
 use Rattle.bus_laws.proofs.Thinning.{Sought, found_where, sought_where}
 use Rattle.bus_laws.proofs.Local.{proper_legal}
 use Rattle.bus_laws.proofs.OneEvent.{kind_at, invoked_serves}
-use Rattle.activation_laws.specs.Followed.{AsksNext, HasJustAsked}
-use Rattle.activation_laws.specs.OpenAreas.{open_areas}
-use Rattle.activation_laws.specs.Wishes.{is_awaited}
+use Rattle.history_laws.specs.Followed.{AsksNext, HasJustAsked}
+use Rattle.history_laws.specs.OpenAreas.{open_areas}
+use Rattle.history_laws.specs.Wishes.{is_awaited}
 use Rattle.history_laws.proofs.Bounds.{mode_small}
 use Rattle.history_laws.proofs.Moments.{moment_words}
 use Rattle.history_laws.specs.Running.{GoesOn}

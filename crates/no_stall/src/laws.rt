@@ -8,11 +8,11 @@ ghost use Rattle.bus_semantics.specs.Rest.{IsAtRest};
 ghost use Rattle.bus_semantics.specs.Quiet.{IsQuiet};
 ghost use Rattle.bus_semantics.specs.Sound.{IsSound};
 
-use activation_laws::{
+use history_laws::{
     activations_ask_what_fits, admission_comes_first, areas_open_and_close,
-    direct_activations_make_no_calls, hearing_follows_an_accepted_ask,
+    direct_activations_make_no_calls, hearing_follows_an_accepted_ask, held_areas_have_a_holder,
+    requests_have_servers, running_activations_go_on,
 };
-use history_laws::{held_areas_have_a_holder, requests_have_servers, running_activations_go_on};
 
 /// A legal history of a sound plan that is at rest is quiet: no activation runs, no event is due, and each machine is
 /// stable and has begun every accepted switch.

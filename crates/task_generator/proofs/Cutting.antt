@@ -13,14 +13,14 @@ use Rattle.bus_semantics.specs.Programs.{Outcome, Stop, Go, Running, goes_on, bo
 use Rattle.bus_semantics.specs.Activations.{Implicit, one, all_of, publications_of, each, publishing_one, is_written, publishing_it, publishing, admitting, fetching, returning, ending, activity, state_at_start, wanted_next}
 use Rattle.bus_semantics.specs.SoundLists.{list_sound}
 use Rattle.bus_semantics.specs.Sound.{IsSound}
-use Rattle.activation_laws.specs.Given.{limits_at, elems_take}
-use Rattle.activation_laws.proofs.Trails.{Trail}
-use Rattle.activation_laws.proofs.Runs.{reached}
-use Rattle.activation_laws.proofs.Asked.{MayAsk}
-use Rattle.activation_laws.proofs.Marks.{limits_count, marked_fewer}
-use Rattle.activation_laws.proofs.Lists.{list_short}
-use Rattle.activation_laws.proofs.Words.{as_many}
-use Rattle.activation_laws.proofs.Wholes.{kept_at_start, activity_obeys, Ended}
+use Rattle.history_laws.specs.Given.{limits_at, elems_take}
+use Rattle.history_laws.proofs.Trails.{Trail}
+use Rattle.history_laws.proofs.Runs.{reached}
+use Rattle.history_laws.proofs.Asked.{MayAsk}
+use Rattle.history_laws.proofs.Marks.{limits_count, marked_fewer}
+use Rattle.history_laws.proofs.ActivationLists.{list_short}
+use Rattle.history_laws.proofs.Words.{as_many}
+use Rattle.history_laws.proofs.Wholes.{kept_at_start, activity_obeys, Ended}
 use Rattle.task_generator.proofs.Together.{take_whole}
 
 -- ---- publications that are cut

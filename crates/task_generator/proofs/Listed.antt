@@ -17,11 +17,11 @@ use Rattle.bus_semantics.specs.SoundPlan.{is_in}
 use Rattle.bus_semantics.specs.SoundLists.{accesses_elem, list_kind}
 use Rattle.bus_semantics.specs.SoundAccesses.{access_sound, each_access}
 use Rattle.bus_semantics.specs.Sound.{IsSound}
-use Rattle.activation_laws.specs.LookUps.{Sought, sought}
-use Rattle.activation_laws.proofs.Served.{kind_same}
-use Rattle.activation_laws.proofs.Asked.{IsListed}
-use Rattle.activation_laws.proofs.Accesses.{accesses_sound}
-use Rattle.activation_laws.proofs.Lists.{listed_early, listed_late}
+use Rattle.history_laws.specs.LookUps.{Sought, sought}
+use Rattle.history_laws.proofs.Served.{kind_same}
+use Rattle.history_laws.proofs.Asked.{IsListed}
+use Rattle.history_laws.proofs.Accesses.{accesses_sound}
+use Rattle.history_laws.proofs.ActivationLists.{listed_early, listed_late}
 use Rattle.implicit_buffers.specs.Buffers.{named, fetched_by, published_by}
 use Rattle.task_generator.specs.Slots.{slot_of}
 use Rattle.task_generator.proofs.Slots.{HaveSlots, all_have_slots}

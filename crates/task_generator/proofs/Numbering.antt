@@ -8,7 +8,7 @@ use Rattle.runnable_lang.specs.declared.program.AccessKind.{AccessKind}
 use Rattle.runnable_lang.specs.declared.program.AccessSig.{AccessSig}
 use Rattle.bus_semantics.specs.State.{same_kind, is_to, found}
 use Rattle.implicit_buffers.specs.Buffers.{named}
-use Rattle.activation_laws.proofs.Served.{kind_same}
+use Rattle.history_laws.proofs.Served.{kind_same}
 use Rattle.task_generator.specs.Numbers.{counts_among, counted, numbers_from}
 
 -- ---- one access more

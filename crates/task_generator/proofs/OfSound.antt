@@ -20,10 +20,10 @@ use Rattle.bus_semantics.specs.SoundElements.{same_limits}
 use Rattle.bus_semantics.specs.SoundAccesses.{access_sound, each_access, takes_words, point_takes, accesses_distinct, areas_rise}
 use Rattle.bus_semantics.specs.SoundPrograms.{body_sound}
 use Rattle.bus_semantics.specs.Sound.{IsSound}
-use Rattle.activation_laws.specs.LookUps.{sought}
-use Rattle.activation_laws.proofs.Served.{kind_same, sound_of_kind}
-use Rattle.activation_laws.proofs.Accesses.{elem_is, point_is, whole, accesses_sound}
-use Rattle.activation_laws.proofs.SoundServers.{server_is, server_fits}
+use Rattle.history_laws.specs.LookUps.{sought}
+use Rattle.history_laws.proofs.Served.{kind_same, sound_of_kind}
+use Rattle.history_laws.proofs.Accesses.{elem_is, point_is, whole, accesses_sound}
+use Rattle.history_laws.proofs.SoundServers.{server_is, server_fits}
 use Rattle.task_generator.specs.Servers.{served, arguments_in}
 use Rattle.task_generator.specs.Bounded.{gives, IsBounded}
 use Rattle.task_generator.proofs.Resolving.{ins}

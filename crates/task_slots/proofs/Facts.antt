@@ -27,8 +27,8 @@ use Rattle.bus_semantics.specs.SoundEvents.{kind_sound, server_served, serves_ba
 use Rattle.bus_semantics.specs.Sound.{IsSound, times_mapped}
 use Rattle.bus_laws.proofs.Thinning.{option_test}
 use Rattle.bus_laws.proofs.OneEvent.{event_at, kind_at, kind_part, serves_invoked}
-use Rattle.activation_laws.specs.LookUps.{sought, looked, at_place}
-use Rattle.activation_laws.proofs.Lists.{bundled}
+use Rattle.history_laws.specs.LookUps.{sought, looked, at_place}
+use Rattle.history_laws.proofs.ActivationLists.{bundled}
 use Rattle.history_laws.proofs.Lists.{there_is}
 use Rattle.history_laws.proofs.OneKey.{server_runs, server_home}
 use Rattle.task_slots.specs.declared.slot.Call.{Call}

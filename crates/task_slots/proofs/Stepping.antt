@@ -21,7 +21,7 @@ use Rattle.bus_semantics.specs.Locality.{is_proper, starts_its_own}
 use Rattle.bus_semantics.specs.Actor.{activation_of, wanted_in, next_wish, is_held_back, follows_program}
 use Rattle.bus_semantics.specs.Activations.{next_of_activity}
 use Rattle.bus_semantics.specs.Asked.{is_start, event_of}
-use Rattle.activation_laws.specs.LookUps.{looked}
+use Rattle.history_laws.specs.LookUps.{looked}
 use Rattle.history_laws.proofs.Keys.{begins}
 use Rattle.port_objects.specs.Freed as freed
 use Rattle.task_machine.specs.declared.instr.TaskSet.{TaskSet}

@@ -24,7 +24,7 @@ use Rattle.bus_semantics.specs.Locality.{is_proper}
 use Rattle.bus_semantics.specs.Rest.{plain_key}
 use Rattle.bus_semantics.specs.Sound.{IsSound}
 use Rattle.bus_semantics.specs.Asked.{is_start, event_of}
-use Rattle.activation_laws.specs.Wishes.{is_of_a_call}
+use Rattle.history_laws.specs.Wishes.{is_of_a_call}
 use Rattle.bus_laws.proofs.Thinning.{option_same, option_test}
 use Rattle.history_laws.proofs.Keys.{begins}
 use Rattle.port_objects.specs.Freed as freed

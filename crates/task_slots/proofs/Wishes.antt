@@ -18,9 +18,9 @@ use Rattle.bus_semantics.specs.Fitting.{wish_fits}
 use Rattle.bus_semantics.specs.Activations.{next_of_activity}
 use Rattle.bus_semantics.specs.Asked.{is_start, asks_its_own, event_of}
 use Rattle.bus_semantics.specs.Sound.{IsSound}
-use Rattle.activation_laws.specs.Followed.{IsActivation, Followed, AsksNext, HasJustAsked}
-use Rattle.activation_laws.specs.Following.{followed_none, followed_more}
-use Rattle.activation_laws.specs.Wishes.{is_of_a_call, is_the_end}
+use Rattle.history_laws.specs.Followed.{IsActivation, Followed, AsksNext, HasJustAsked}
+use Rattle.history_laws.specs.Following.{followed_none, followed_more}
+use Rattle.history_laws.specs.Wishes.{is_of_a_call, is_the_end}
 use Rattle.bus_semantics.specs.SoundEvents.{may_be_disabled}
 use Rattle.bus_laws.proofs.OneEvent.{serves_invoked}
 use Rattle.history_laws.proofs.Lists.{all_more}

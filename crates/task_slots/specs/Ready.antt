@@ -10,7 +10,7 @@ use Rattle.bus_semantics.specs.Plan.{Plan, Runnable, runnable_of_event, server_o
 use Rattle.bus_semantics.specs.Owners.{key_fits}
 use Rattle.bus_semantics.specs.Sound.{times_mapped}
 use Rattle.bus_semantics.specs.Wanted.{Wanted}
-use Rattle.activation_laws.specs.Followed.{Followed}
+use Rattle.history_laws.specs.Followed.{Followed}
 use Rattle.task_machine.specs.declared.instr.TaskSet.{TaskSet}
 use Rattle.task_machine.specs.Standing.{Standing}
 use Rattle.task_machine.specs.Frames.{Stands, IsMadeFor}

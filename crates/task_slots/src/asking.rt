@@ -11,11 +11,11 @@ ghost use Rattle.bus_semantics.specs.History.{is_over};
 ghost use Rattle.bus_semantics.specs.Owners.{key_fits, serves_directly};
 ghost use Rattle.bus_semantics.specs.Asked.{is_start, event_of};
 ghost use Rattle.bus_semantics.specs.Sound.{IsSound};
-ghost use Rattle.activation_laws.specs.Wishes.{is_of_a_call};
+ghost use Rattle.history_laws.specs.Wishes.{is_of_a_call};
 ghost use Rattle.task_slots.specs.Ready.{is_answered, IsAsking};
 ghost use Rattle.task_slots.specs.Looking.{IsTried};
 
-use activation_laws::{
+use history_laws::{
     activations_ask_what_fits, activations_go_on, admission_comes_first,
     direct_activations_make_no_calls, hearing_follows_an_accepted_ask, what_touches_nothing,
 };

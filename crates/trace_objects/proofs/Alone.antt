@@ -36,9 +36,9 @@ use Rattle.bus_semantics.specs.SoundEvents.{kind_sound}
 use Rattle.bus_laws.proofs.Bundling.{no_bundle}
 use Rattle.bus_laws.proofs.LocalCalls.{no_server}
 use Rattle.bus_laws.proofs.OneEvent.{kind_part}
-use Rattle.activation_laws.specs.Followed.{IsActivation}
-use Rattle.activation_laws.specs.LookUps.{sought, looked}
-use Rattle.activation_laws.specs.Wishes.{is_of_a_call, is_the_end}
+use Rattle.history_laws.specs.Followed.{IsActivation}
+use Rattle.history_laws.specs.LookUps.{sought, looked}
+use Rattle.history_laws.specs.Wishes.{is_of_a_call, is_the_end}
 use Rattle.history_laws.specs.Running.{GoesOn}
 use Rattle.history_laws.proofs.Keys.{wish_runs}
 use Rattle.port_objects.specs.declared.object.Object.{Object}

@@ -22,7 +22,7 @@ use Rattle.bus_semantics.specs.Asked.{asks_its_own, event_of, noted_for, MayCome
 use Rattle.bus_semantics.specs.Sound.{IsSound}
 use Rattle.bus_semantics.specs.Activations.{next_of_activity}
 use Rattle.bus_semantics.proofs.SameWanted.{same_wanted-Decides}
-use Rattle.activation_laws.specs.Followed.{IsActivation}
+use Rattle.history_laws.specs.Followed.{IsActivation}
 use Rattle.history_laws.specs.Running.{GoesOn}
 use Rattle.history_laws.proofs.Keys.{wish_runs}
 use Rattle.port_objects.specs.declared.object.Object.{Object}

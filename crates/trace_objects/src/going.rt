@@ -18,9 +18,8 @@ ghost use Rattle.trace_objects.specs.Standing.{ObjectsStand};
 ghost use Rattle.trace_objects.specs.Unrest.{AreAmong};
 
 use crate::unrest::Unrest;
-use activation_laws::activations_ask_what_fits;
 use bus_semantics::{Actor, BusPlan, Entry, Wish};
-use history_laws::{running_activations_go_on, what_comes_may_follow};
+use history_laws::{activations_ask_what_fits, running_activations_go_on, what_comes_may_follow};
 use port_objects::{
     Acted, Object, act, free_deed, free_deeds_are_legal, object_of, sound_plans_have_objects,
 };

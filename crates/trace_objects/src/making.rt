@@ -19,12 +19,11 @@ ghost use Rattle.trace_objects.specs.Unrest.{AreAmong};
 use crate::came::Came;
 use crate::clauses::broken_by;
 use crate::unrest::Unrest;
-use activation_laws::what_touches_nothing;
 use bus_laws::answers_look_at_one_object;
 use bus_semantics::{BusPlan, Entry, Wish, wish_of};
 use history_laws::{
     calls_come, hearers_have_asked, legal_histories_part_into_objects, running_activations_go_on,
-    unjoined_points_return_nothing, what_comes_may_follow, wishes_match,
+    unjoined_points_return_nothing, what_comes_may_follow, what_touches_nothing, wishes_match,
 };
 use port_objects::{
     Acted, Object, act, free_deed, free_deeds_are_legal, object_of, sound_plans_have_objects,

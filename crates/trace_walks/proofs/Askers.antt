@@ -15,7 +15,7 @@ use Rattle.bus_semantics.specs.Owners.{serves_directly, key_fits, own_point}
 use Rattle.bus_semantics.specs.Actor.{accepted_point, asked_last}
 use Rattle.bus_semantics.specs.Legal.{MayFollow, IsLegal}
 use Rattle.bus_semantics.specs.Sound.{IsSound}
-use Rattle.activation_laws.proofs.Asking.{calls_none}
+use Rattle.history_laws.proofs.Asking.{calls_none}
 use Rattle.bus_laws.proofs.Thinning.{option_same}
 use Rattle.history_laws.proofs.Keys.{mine, itself, is_mine, alive, IsTo, others, starts, goes_on, is_to}
 use Rattle.history_laws.proofs.GoingOn.{acting}

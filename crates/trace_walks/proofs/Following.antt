@@ -22,7 +22,7 @@ use Rattle.bus_semantics.specs.Owners.{key_fits}
 use Rattle.bus_semantics.specs.Fitting.{fits}
 use Rattle.bus_semantics.specs.Actor.{Activation, with_deed, activation_of, wanted_in, next_wish, asked_last, is_this, is_wanted_next, is_held_back, caller_has_asked, may_start, starts_or_goes_on, follows_program}
 use Rattle.bus_semantics.specs.Rest.{plain_key}
-use Rattle.activation_laws.specs.LookUps.{looked}
+use Rattle.history_laws.specs.LookUps.{looked}
 use Rattle.history_laws.proofs.Keys.{fit_key}
 use Rattle.history_laws.proofs.Lists.{there_is}
 use Rattle.task_machine.specs.declared.instr.TaskSet.{TaskSet}

@@ -20,7 +20,7 @@ use Rattle.bus_semantics.specs.Legal.{queued_allows, is_outcome, IsLegal}
 use Rattle.bus_semantics.specs.SoundPlan.{is_in}
 use Rattle.bus_semantics.specs.SoundElements.{elem_sound}
 use Rattle.bus_semantics.specs.Sound.{IsSound}
-use Rattle.activation_laws.specs.LookUps.{all_at}
+use Rattle.history_laws.specs.LookUps.{all_at}
 use Rattle.bus_laws.proofs.QueueLaws.{receive_sends_none, takes_oldest, bounded}
 use Rattle.history_laws.proofs.Lists.{there_is}
 use Rattle.value_laws.specs.Sent.{waiting_at}

@@ -25,9 +25,9 @@ use Rattle.bus_semantics.specs.Queued.{sent_in, sent_to, taken_at, is_room, plac
 use Rattle.bus_semantics.specs.Legal.{queued_allows, is_outcome, MayFollow, IsLegal}
 use Rattle.bus_semantics.specs.SoundElements.{is_within, agrees}
 use Rattle.bus_semantics.specs.Sound.{IsSound}
-use Rattle.activation_laws.specs.Given.{are_within, elem_takes}
-use Rattle.activation_laws.specs.LookUps.{all_at}
-use Rattle.activation_laws.proofs.Asking.{given}
+use Rattle.history_laws.specs.Given.{are_within, elem_takes}
+use Rattle.history_laws.specs.LookUps.{all_at}
+use Rattle.history_laws.proofs.Asking.{given}
 use Rattle.bus_laws.proofs.Thinning.{option_same, found_where}
 use Rattle.history_laws.proofs.Keys.{mine, itself, IsTo, others, starts, goes_on, alive, is_to}
 use Rattle.history_laws.proofs.GoingOn.{acting}
