@@ -7,7 +7,7 @@ use Rattle.bus_semantics.specs.declared.script.Mapping.{Mapping}
 use Rattle.bus_semantics.specs.Legal.{IsLegal}
 use Rattle.bus_semantics.specs.Plan.{Plan, plan_of}
 use Rattle.bus_semantics.specs.Run.{IsLegalRun, Ordered, Session, history_of, orders_of_script}
-use Rattle.value_laws.specs.Sent.{EnvironmentKeepsLimits}
+use Rattle.pair_run.specs.Sent.{EnvironmentKeepsLimits}
 use Rattle.core_runtime.specs.Nodes.{NodeState}
 use Rattle.script_run.specs.declared.script.ScriptRun.{ScriptRun}
 use Rattle.script_run.specs.declared.script.ScriptRun.TheVariants as run

@@ -8,7 +8,7 @@ use Rattle.rte_value.specs.declared.value.Value.{Value}
 use Rattle.rte_value.specs.Values.{words_of}
 use Rattle.bus_semantics.specs.declared.entries.Entry.{Entry}
 use Rattle.bus_semantics.specs.Plan.{Plan, plan_of}
-use Rattle.value_laws.specs.Sent.{takes}
+use Rattle.pair_run.specs.Sent.{takes}
 use Rattle.bus_semantics.specs.Wanted.{to_receive, to_send}
 use Rattle.core_runtime.specs.Nodes.{NodeState}
 use Rattle.script_run.specs.declared.writing.Writing.{Writing}

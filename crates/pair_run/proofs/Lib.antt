@@ -13,3 +13,7 @@ pub mod Values
 pub mod Lines
 pub mod Draining
 pub mod Printed
+pub mod Within
+pub mod Waiting
+pub mod Giving
+pub mod Moments

@@ -14,7 +14,7 @@ use Rattle.bus_semantics.specs.Plan.{Plan}
 use Rattle.bus_semantics.specs.Run.{Session, made, run_begins, run_closes, history_of, Ordered, a_run, a_call, orders_of, orders_of_entry, orders_of_script}
 use Rattle.bus_semantics.specs.Wanted.{to_tick}
 use Rattle.script_reading.specs.Meaning as asked
-use Rattle.value_laws.specs.Sent.{EnvironmentKeepsLimits, keeps_limits}
+use Rattle.pair_run.specs.Sent.{EnvironmentKeepsLimits, keeps_limits}
 use Rattle.pair_run.specs.Running as pair
 
 -- an order that keeps the limits

@@ -23,7 +23,7 @@ use Rattle.bus_semantics.specs.SoundPlan.{is_in}
 use Rattle.bus_semantics.specs.Spelling.{Letters}
 use Rattle.bus_semantics.specs.Wanted.{to_receive, to_send}
 use Rattle.bus_laws.proofs.Thinning.{found_where}
-use Rattle.value_laws.specs.Sent as sent
+use Rattle.pair_run.specs.Sent as sent
 use Rattle.script_reading.specs.declared.forms.Form.TheVariants.{Send, Receive}
 use Rattle.script_reading.specs.Offers.{elem_offered, is_for, named_if, number_of}
 use Rattle.script_reading.proofs.Apart.{are_distinct, elem_apart}

@@ -22,9 +22,9 @@ use Rattle.bus_semantics.specs.Queued.{takes_at}
 use Rattle.bus_semantics.specs.Sound.{IsSound}
 use Rattle.bus_semantics.specs.Run.{Ordered, Session, made, a_call, history_of, orders_of, orders_of_entry}
 use Rattle.bus_semantics.specs.Wanted.{Wanted, to_tick, to_receive, to_send, wanted_by}
-use Rattle.value_laws.specs.Sent.{IsReceived, a_value, nothing, takes, waiting_at}
-use Rattle.value_laws.proofs.Waiting.{held, oldest, places}
-use Rattle.value_laws.proofs.Within.{received}
+use Rattle.pair_run.specs.Sent.{IsReceived, a_value, nothing, takes, waiting_at}
+use Rattle.pair_run.proofs.Waiting.{held, oldest, places}
+use Rattle.pair_run.proofs.Within.{received}
 use Rattle.core_runtime.specs.Nodes.{NodeState}
 use Rattle.script_run.specs.declared.writing.Writing.{Writing}
 use Rattle.script_run.specs.Standing.{Calls, outside}

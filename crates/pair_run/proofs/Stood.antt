@@ -6,7 +6,7 @@ use Rattle.bus_semantics.specs.declared.entries.Actor.TheVariants.{Env}
 use Rattle.bus_semantics.specs.Fitting.{wish_fits}
 use Rattle.bus_semantics.specs.Plan.{Plan, plan_of}
 use Rattle.bus_semantics.specs.Wanted.{to_receive, to_send}
-use Rattle.value_laws.specs.Sent.{takes}
+use Rattle.pair_run.specs.Sent.{takes}
 use Rattle.core_runtime.specs.Nodes.{NodeState}
 use Rattle.signal_link.specs.declared.link_elem.LinkElem.{LinkElem}
 use Rattle.signal_link.specs.Links as link

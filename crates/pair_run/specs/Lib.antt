@@ -5,3 +5,6 @@ pub mod Pairs
 pub mod Parts
 pub mod Running
 pub mod Standing
+pub mod Sent
+pub mod Given
+pub mod OneMoment

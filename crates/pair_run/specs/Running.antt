@@ -13,7 +13,7 @@ use Rattle.script_reading.specs.Carried.{IsCarriable}
 use Rattle.script_reading.specs.Meaning.{Asked, a_call, asked_of}
 use Rattle.script_reading.specs.Reserved.{keeps_off}
 use Rattle.script_run.specs.Quieting.{IdlesAreQuiet}
-use Rattle.value_laws.specs.Sent.{takes}
+use Rattle.pair_run.specs.Sent.{takes}
 use Rattle.signal_link.specs.declared.link_elem.LinkElem.{LinkElem}
 use Rattle.bus_semantics.specs.Wanted.{to_send}
 use Rattle.pair_run.specs.declared.pair.PairRun.{PairRun}

@@ -7,7 +7,7 @@ use Rattle.bus_semantics.specs.Plan.{Plan}
 use Rattle.bus_semantics.specs.Sound.{IsSound}
 use Rattle.bus_semantics.specs.Run.{IsLegalRun, Ordered, Session, history_of}
 use Rattle.core_runtime.specs.Nodes.{NodeState}
-use Rattle.value_laws.specs.Sent.{EnvironmentKeepsLimits}
+use Rattle.pair_run.specs.Sent.{EnvironmentKeepsLimits}
 use Rattle.signal_link.specs.Unframing.{Kept}
 use Rattle.script_run.specs.declared.script.ScriptRun.{ScriptRun}
 use Rattle.script_run.specs.declared.script.ScriptRun.TheVariants as run

@@ -9,7 +9,7 @@ use Rattle.bus_semantics.specs.declared.plan.BusPlan.{BusPlan}
 use Rattle.bus_semantics.specs.Fitting.{wish_fits}
 use Rattle.bus_semantics.specs.Plan.{plan_of}
 use Rattle.bus_semantics.specs.Wanted.{to_receive, to_send}
-use Rattle.value_laws.specs.Sent.{takes}
+use Rattle.pair_run.specs.Sent.{takes}
 use Rattle.signal_link.specs.declared.link_elem.LinkElem.{LinkElem}
 use Rattle.signal_link.specs.Links.{AreOfWords}
 use Rattle.signal_link.specs.Unframing.{IsGood, Kept}

@@ -16,7 +16,7 @@ use Rattle.bus_semantics.specs.History.{History, noted}
 use Rattle.bus_semantics.specs.Unqueued.{is_in_group, last_in, stored_in, last_stored}
 use Rattle.bus_laws.proofs.Thinning.{clash, option_same, option_test}
 use Rattle.bus_laws.proofs.OneBundle.{has}
-use Rattle.value_laws.specs.Given.{gives, given_in, reaches, IsLastGiven}
+use Rattle.pair_run.specs.Given.{gives, given_in, reaches, IsLastGiven}
 
 -- an entry stores in a group what it gives last to it
 stored_gives : (p : Plan) (g : ℕ) (d : Deed) → stored_in p g d ≡ last_in p g (gives p d)

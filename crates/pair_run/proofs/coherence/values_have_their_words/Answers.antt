@@ -1,5 +1,5 @@
-use Rattle.value_laws.proofs.Moments as by
-use Rattle.value_laws.proofs.coherence.values_have_their_words.Goals as goal
+use Rattle.pair_run.proofs.Moments as by
+use Rattle.pair_run.proofs.coherence.values_have_their_words.Goals as goal
 
 pub returns-clause-words : goal.returns-clause-words
 returns-clause-words c = by.words

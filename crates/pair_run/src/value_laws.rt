@@ -11,7 +11,7 @@ ghost use Rattle.bus_semantics.specs.History.{History, Past, noted};
 ghost use Rattle.bus_semantics.specs.Queued.{takes_at, accepted_at, places_at};
 ghost use Rattle.bus_semantics.specs.Legal.{IsLegal};
 ghost use Rattle.bus_semantics.specs.Sound.{IsSound};
-ghost use Rattle.value_laws.specs.Sent.{takes, EnvironmentKeepsLimits, IsReceived, waiting_at};
+ghost use Rattle.pair_run.specs.Sent.{takes, EnvironmentKeepsLimits, IsReceived, waiting_at};
 
 /// What a queue of a sound plan accepts, and what a Receive takes there, are values of its element: as many words as this
 /// has, each within its limits. The history is legal, and what the environment sends in it keeps its limits (what

@@ -1,5 +1,5 @@
-use Rattle.value_laws.proofs.Within as by
-use Rattle.value_laws.proofs.laws.received_values_are_within.Goals as goal
+use Rattle.pair_run.proofs.Within as by
+use Rattle.pair_run.proofs.value_laws.received_values_are_within.Goals as goal
 
 pub returns-clause-accepted : goal.returns-clause-accepted
 returns-clause-accepted c = λ p m h elem place words sound legal keeps at. by.accepted p m sound elem h legal keeps place words at

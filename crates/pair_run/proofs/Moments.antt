@@ -25,9 +25,9 @@ use Rattle.bus_laws.proofs.Thinning.{clash}
 use Rattle.bus_laws.proofs.Local.{proper_legal}
 use Rattle.bus_laws.proofs.OneBundle.{has_at, list_home, list_bundled}
 use Rattle.history_laws.proofs.Moments.{value_words, moment_words}
-use Rattle.value_laws.specs.Given.{published, gives, given_in, reaches, IsLastGiven}
-use Rattle.value_laws.specs.OneMoment.{shown, StandsAt, was_given, never_given, ShowsHistory, ShowsWhole, FetchesOneMoment, SeesAllOf}
-use Rattle.value_laws.proofs.Giving.{none_stored, last_one, since, given_from, reached, each_reaches, bit_marks}
+use Rattle.pair_run.specs.Given.{published, gives, given_in, reaches, IsLastGiven}
+use Rattle.pair_run.specs.OneMoment.{shown, StandsAt, was_given, never_given, ShowsHistory, ShowsWhole, FetchesOneMoment, SeesAllOf}
+use Rattle.pair_run.proofs.Giving.{none_stored, last_one, since, given_from, reached, each_reaches, bit_marks}
 
 -- ---- words
 

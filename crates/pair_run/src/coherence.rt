@@ -12,7 +12,7 @@ ghost use Rattle.bus_semantics.specs.History.{History, noted};
 ghost use Rattle.bus_semantics.specs.Unqueued.{value_at, moment_of};
 ghost use Rattle.bus_semantics.specs.Legal.{IsLegal};
 ghost use Rattle.bus_semantics.specs.Sound.{IsSound};
-ghost use Rattle.value_laws.specs.OneMoment.{ShowsHistory, FetchesOneMoment, SeesAllOf};
+ghost use Rattle.pair_run.specs.OneMoment.{ShowsHistory, FetchesOneMoment, SeesAllOf};
 
 /// In a legal history the value of an element has as many words as its type says, and the values of a list's elements at one
 /// moment have together at most 16. So a FetchAll always has a value.

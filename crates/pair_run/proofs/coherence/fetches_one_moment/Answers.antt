@@ -1,5 +1,5 @@
-use Rattle.value_laws.proofs.Moments as by
-use Rattle.value_laws.proofs.coherence.fetches_one_moment.Goals as goal
+use Rattle.pair_run.proofs.Moments as by
+use Rattle.pair_run.proofs.coherence.fetches_one_moment.Goals as goal
 
 pub returns-clause-moment : goal.returns-clause-moment
 returns-clause-moment c = by.moment

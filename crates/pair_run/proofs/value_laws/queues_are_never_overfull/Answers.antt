@@ -1,5 +1,5 @@
-use Rattle.value_laws.proofs.Waiting as by
-use Rattle.value_laws.proofs.laws.queues_are_never_overfull.Goals as goal
+use Rattle.pair_run.proofs.Waiting as by
+use Rattle.pair_run.proofs.value_laws.queues_are_never_overfull.Goals as goal
 
 pub returns-clause-held : goal.returns-clause-held
 returns-clause-held c = by.held

@@ -1,5 +1,5 @@
-use Rattle.value_laws.proofs.Waiting as by
-use Rattle.value_laws.proofs.laws.receives_take_the_oldest.Goals as goal
+use Rattle.pair_run.proofs.Waiting as by
+use Rattle.pair_run.proofs.value_laws.receives_take_the_oldest.Goals as goal
 
 pub returns-clause-oldest : goal.returns-clause-oldest
 returns-clause-oldest c = by.oldest

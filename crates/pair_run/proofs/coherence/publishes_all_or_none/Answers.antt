@@ -1,5 +1,5 @@
-use Rattle.value_laws.proofs.Moments as by
-use Rattle.value_laws.proofs.coherence.publishes_all_or_none.Goals as goal
+use Rattle.pair_run.proofs.Moments as by
+use Rattle.pair_run.proofs.coherence.publishes_all_or_none.Goals as goal
 
 pub returns-clause-all : goal.returns-clause-all
 returns-clause-all c = by.all

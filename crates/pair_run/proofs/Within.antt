@@ -32,7 +32,7 @@ use Rattle.bus_laws.proofs.Thinning.{option_same, found_where}
 use Rattle.history_laws.proofs.Keys.{mine, itself, IsTo, others, starts, goes_on, alive, is_to}
 use Rattle.history_laws.proofs.GoingOn.{acting}
 use Rattle.history_laws.proofs.Lists.{AtEnd, earlier, last, at_end}
-use Rattle.value_laws.specs.Sent.{is_value_of, takes, keeps_limits, EnvironmentKeepsLimits, IsReceived, a_value, nothing}
+use Rattle.pair_run.specs.Sent.{is_value_of, takes, keeps_limits, EnvironmentKeepsLimits, IsReceived, a_value, nothing}
 
 -- ---- words within limits
 

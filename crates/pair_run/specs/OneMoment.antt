@@ -9,7 +9,7 @@ use Rattle.bus_semantics.specs.Plan.{Plan, group_of}
 use Rattle.bus_semantics.specs.Lists.{elems_of, split}
 use Rattle.bus_semantics.specs.History.{History, noted}
 use Rattle.bus_semantics.specs.Unqueued.{moment_of}
-use Rattle.value_laws.specs.Given.{published, gives, given_in, reaches, IsLastGiven}
+use Rattle.pair_run.specs.Given.{published, gives, given_in, reaches, IsLastGiven}
 
 -- what a fetched list shows: its elements in the list's order, each with its words
 abbrev pub shown : Plan → (list : ℕ) → Value → List (ℕ × List ℤ)

@@ -23,7 +23,7 @@ use Rattle.bus_semantics.specs.Sound.{IsSound}
 use Rattle.history_laws.specs.LookUps.{all_at}
 use Rattle.bus_laws.proofs.QueueLaws.{receive_sends_none, takes_oldest, bounded}
 use Rattle.history_laws.proofs.Lists.{there_is}
-use Rattle.value_laws.specs.Sent.{waiting_at}
+use Rattle.pair_run.specs.Sent.{waiting_at}
 
 pub held : (p : Plan) (x : ℕ) (l : Past) → length (waiting_at p x l) ≤ places_at p x
 held p x l = omega (arith, length-drop (taken_at x l) (accepted_at p x l), bounded p x l)

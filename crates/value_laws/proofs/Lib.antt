@@ -1,4 +1,0 @@
-pub mod Within
-pub mod Waiting
-pub mod Giving
-pub mod Moments
