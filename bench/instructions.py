@@ -33,7 +33,7 @@ WORK = {
     "puts": r"^rte(::|_text::real)",
     "bodies": r"^(task_machine|runnable_lang)::",
     "wakes": r"^core_runtime::(waking|machines|waiting)",
-    "acts": r"^(port_objects::acting|\w+_objects::|explicit_ports|queued_ports|client_server|mode_machine|latches|tick_events)",
+    "acts": r"^(port_objects::acting|\w+_objects::|queued_ports|client_server|mode_machine|latches|tick_events)",
     "looks": r"^(core_turn|task_slots|place_set|port_objects|bus_semantics)::",
     "steps": r"^(core_runtime|script_run)::",
 }

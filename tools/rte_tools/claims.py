@@ -186,7 +186,7 @@ def cells(row: str) -> list[str]:
 
 
 def path_in(part: str) -> str:
-    """The path below its crate that a part of a cell names: `src/laws.rt` of `plan_laws/src/laws.rt`."""
+    """The path below its crate that a part of a cell names: `src/laws.rt` of `bus_laws/src/laws.rt`."""
     paths = [name for name in QUOTED.findall(part) if name.endswith(".rt")]
     return paths[0][paths[0].index("src/") :] if len(paths) == 1 and "src/" in paths[0] else ""
 

@@ -2,7 +2,7 @@
 //!
 //! `read_description` takes the bytes of a description and gives a `Description`, or the least rule that they break, with
 //! its first place. Rules 1 and those of shapes and names are judged by `description_places`, the rules of types (6 and 7)
-//! by `interface_types`, and rule 8 here: an initial value of a data element or variable has as many words as its type,
+//! by `description_types`, and rule 8 here: an initial value of a data element or variable has as many words as its type,
 //! each within its limits. It is judged on every port and side, used or not; the place is the initial value.
 //!
 //! What refers to something by its name holds the position of the item of this name in the list that declares it

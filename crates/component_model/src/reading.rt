@@ -111,7 +111,7 @@ fn checked(alloc: Global, description: Description) -> Result<Description, Refus
 }
 
 /// The description that the bytes are, if they break none of rules 1 to 8: those of `judge` of `description_places`, those
-/// of `check_types` of `interface_types`, and that an initial value of a data element or variable has as many words as its
+/// of `check_types` of `description_types`, and that an initial value of a data element or variable has as many words as its
 /// type, each within its limits (8, at the initial value). `Rule` names the least rule that they break, with its first
 /// place; `Memory` is answered if memory ran out, and never tells anything of the bytes. They are read as fewer values than
 /// 32 bits number, as bytes fewer than that are, so each name stands at a position of 32 bits. What is read is the one typed

@@ -12,7 +12,7 @@ use crate::flat::descriptions_are_made_flat_or_refused;
 use description_stages::{plans_are_sound, read_descriptions_are_well_formed};
 use trace_reading::accepted_items_go_on;
 
-/// The bytes of a file have a plan or are refused by a rule. A file has at most 8 MiB. With `plan_laws` they have exactly one of
+/// The bytes of a file have a plan or are refused by a rule. A file has at most 8 MiB. With the laws of `description_stages` they have exactly one of
 /// these.
 pub fn bytes_have_a_plan_or_a_refusal()
     ensures { (bytes : List ℕ) → length bytes ≤ 8388608 → HasPlan bytes ⊎ HasRefusal bytes }

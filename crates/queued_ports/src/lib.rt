@@ -4,7 +4,7 @@
 //! # Decisions
 //!
 //! **Where does a value lie that waits in a queue?** One of one word lies in the queue itself, any other in a block of a pool that
-//! the queues of a group share (`block_pool`). The pool has a block for each place of these queues, so a queue that is not full
+//! the queues of a group share (`Pool`). The pool has a block for each place of these queues, so a queue that is not full
 //! finds one.
 #![tactic(auto)]
 
