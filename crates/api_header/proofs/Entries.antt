@@ -1,5 +1,6 @@
 -- Calls under their names.
-use Rattle.std.proofs.Common.{◌≡◌, ℕ, List, [], ◌∷◌, ◌++◌, Bool, true, false, cond, drop, map, bytes_eq, Option, Some, None, option_map, is_some, unwrap_or, slice_get, Vec, refl, sym, ap, ◌∙◌, subst, true≢false, codes}
+use Rattle.std.proofs.Common.{◌≡◌, ℕ, List, [], ◌∷◌, ◌++◌, Bool, true, false, cond, drop, map, bytes_eq, Option, Some, None, option_map, is_some, unwrap_or, slice_get, Vec, refl, sym, ap}
+use Rattle.std.proofs.Common.{◌∙◌, subst, true≢false, codes}
 use Rattle.std.specs.Global.{Global}
 use Rattle.indexmap.specs.IndexMap.{IndexMap}
 use Rattle.std.specs.List.{AllByRecursion, find, flat_map}

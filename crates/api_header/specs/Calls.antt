@@ -1,9 +1,6 @@
 -- What the code lists, as definitions see it.
 use Rattle.std.specs.Prelude.{List, [], ◌∷◌, map}
-use Rattle.description_types.specs.declared.interface.TypeTable.{TypeTable}
-use Rattle.description_types.specs.declared.component.Access.{Access}
-use Rattle.description_types.specs.declared.component.Component.{Component}
-use Rattle.description_types.specs.declared.component.Runnable.{Runnable}
+use Rattle.plan_definitions.specs.Common.{TypeTable, Access, Component, Runnable}
 use Rattle.api_header.specs.declared.calls.Call.{Call}
 use Rattle.api_header.specs.declared.calls.Parts.{Parts}
 use Rattle.api_header.specs.declared.calls.Site.{Site}

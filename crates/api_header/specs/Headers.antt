@@ -1,9 +1,7 @@
 -- The header of a component, as far as it names calls (SWS_RTE: 'Contract Phase Header').
 use Rattle.std.specs.Prelude.{◌≡◌, List, [], ◌++◌, bytes_eq, codes, Option, Some, None}
 use Rattle.std.specs.List.{find, flat_map}
-use Rattle.description_types.specs.declared.interface.TypeTable.{TypeTable}
-use Rattle.description_types.specs.declared.component.Component.{Component}
-use Rattle.description_types.specs.declared.description.Description.{Description}
+use Rattle.plan_definitions.specs.Common.{TypeTable, Component, Description}
 use Rattle.api_header.specs.declared.component.HeaderMade.{HeaderMade}
 use Rattle.api_header.specs.declared.component.HeaderMade.TheVariants as answer
 use Rattle.api_header.specs.Targets.{Letters, Target, name_of}

@@ -1,9 +1,7 @@
 -- Which calls a component's header lists, and when two of them clash.
 use Rattle.std.specs.Prelude.{Bool, List, [], ◌∷◌, ◌++◌, filter, not, bytes_eq, if◌then◌else◌, Option, Some, None}
 use Rattle.std.specs.List.{flat_map, list_any}
-use Rattle.description_types.specs.declared.interface.TypeTable.{TypeTable}
-use Rattle.description_types.specs.declared.component.Component.{Component}
-use Rattle.description_types.specs.declared.component.Runnable.{Runnable}
+use Rattle.plan_definitions.specs.Common.{TypeTable, Component, Runnable}
 use Rattle.api_header.specs.Targets.{Letters, Target, name_of, same_target, targets_of}
 
 -- each at its first place alone

@@ -5,11 +5,7 @@ use Rattle.std.specs.List.{flat_map}
 use Rattle.std.specs.Option.{option_map_or}
 use Rattle.runnable_lang.specs.declared.program.AccessKind.{AccessKind}
 use Rattle.runnable_lang.specs.declared.program.AccessKind.TheVariants as kind
-use Rattle.description_types.specs.declared.interface.TypeTable.{TypeTable}
-use Rattle.description_types.specs.declared.component.Access.{Access}
-use Rattle.description_types.specs.declared.component.Component.{Component}
-use Rattle.description_types.specs.declared.component.Runnable.{Runnable}
-use Rattle.plan_definitions.specs.Ports.{item_name}
+use Rattle.plan_definitions.specs.Common.{TypeTable, Access, Component, Runnable, item_name}
 use Rattle.plan_definitions.specs.Signatures.{kind_at}
 
 abbrev pub Letters : Type 0

@@ -1,8 +1,7 @@
 //! What a header lists.
 
 ghost use Rattle.std.specs.Prelude.{◌≡◌, [], None, Some};
-ghost use Rattle.description_types.specs.declared.interface.TypeTable.{TypeTable};
-ghost use Rattle.description_types.specs.declared.component.Component.{Component};
+ghost use Rattle.plan_definitions.specs.Common.{TypeTable, Component};
 ghost use Rattle.api_header.specs.Clashes.{HaveNamesOfTheirOwn, IsFirstClash};
 ghost use Rattle.api_header.specs.Listing.{first_clash, listed};
 ghost use Rattle.api_header.specs.Targets.{Letters};

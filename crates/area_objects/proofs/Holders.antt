@@ -1,23 +1,12 @@
 -- After a past of an area: as many Leaves as Enters, and nobody's Enter is the last of them; or one Enter more, and the last is one activation's.
 use Rattle.std.proofs.Common.{◌≡◌, ℕ, suc, ◌+◌, Bool, true, false, not, ◌==◌, refl, sym, ◌∙◌, ap, subst, arith, [], ◌∷◌, length, Option}
 use Rattle.std.specs.Prelude.{nat_lt}
-use Rattle.std.proofs.lemmas.Bool.{and_parts, eq-eqb, eqb-true, false≢true}
-use Rattle.rte_value.specs.declared.kinds.ActKey.{ActKey}
-use Rattle.rte_value.specs.EqualKeys.{same_key-Decides}
-use Rattle.rte_value.specs.Values.{same_key}
+use Rattle.bus_semantics.specs.Common.{and_parts, eq-eqb, eqb-true, false≢true, ActKey, same_key-Decides, same_key, Plan, Noted, Past, count, first_area, enters, leaves, is_held, Wanted}
+use Rattle.bus_semantics.specs.Common.{to_enter, to_leave, wish_fits, environment_may_want, machine_may_want, is_proper, is_open, enters_by, same_actor, Follows, IsPastOf}
 use Rattle.bus_semantics.specs.declared.entries.Actor.{Actor}
 use Rattle.bus_semantics.specs.declared.entries.Actor.TheVariants.{Env, Machine, Act}
 use Rattle.bus_semantics.specs.declared.entries.Deed.{Deed}
 use Rattle.bus_semantics.specs.declared.entries.Deed.TheVariants as deed
-use Rattle.bus_semantics.specs.Plan.{Plan}
-use Rattle.bus_semantics.specs.History.{Noted, Past, count}
-use Rattle.bus_semantics.specs.Objects.{first_area}
-use Rattle.bus_semantics.specs.Areas.{enters, leaves, is_held}
-use Rattle.bus_semantics.specs.Wanted.{Wanted, to_enter, to_leave}
-use Rattle.bus_semantics.specs.Fitting.{wish_fits, environment_may_want, machine_may_want}
-use Rattle.bus_semantics.specs.Locality.{is_proper}
-use Rattle.bus_semantics.specs.Matching.{is_open, enters_by, same_actor}
-use Rattle.bus_semantics.specs.Pasts.{Follows, IsPastOf}
 use Rattle.object_kinds.proofs.Options.{clash}
 use Rattle.object_kinds.proofs.Proper.{noting, wish_part}
 use Rattle.area_objects.specs.Layout.{area_of}

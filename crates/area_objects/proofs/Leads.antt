@@ -1,18 +1,11 @@
 -- What the lead gives of an area stands for the list and the entry.
 use Rattle.std.proofs.Common.{◌≡◌, ℕ, Bool, true, false, refl, sym, ◌∙◌, ap, subst, ◌∷◌, Option, Some, None, is_some}
 use Rattle.std.specs.Prelude.{is_none}
-use Rattle.std.proofs.lemmas.Bool.{false≢true}
-use Rattle.rte_value.specs.declared.kinds.ActKey.{ActKey}
-use Rattle.rte_value.specs.Values.{same_key}
+use Rattle.bus_semantics.specs.Common.{false≢true, ActKey, same_key, Plan, Past, touches, is_held, IsPastOf}
 use Rattle.bus_semantics.specs.declared.entries.Actor.{Actor}
 use Rattle.bus_semantics.specs.declared.entries.Actor.TheVariants.{Env, Machine, Act}
 use Rattle.bus_semantics.specs.declared.entries.Deed.{Deed}
 use Rattle.bus_semantics.specs.declared.entries.Deed.TheVariants as deed
-use Rattle.bus_semantics.specs.Plan.{Plan}
-use Rattle.bus_semantics.specs.History.{Past}
-use Rattle.bus_semantics.specs.Objects.{touches}
-use Rattle.bus_semantics.specs.Areas.{is_held}
-use Rattle.bus_semantics.specs.Pasts.{IsPastOf}
 use Rattle.area_objects.specs.Held.{is_held_by}
 use Rattle.object_kinds.proofs.Options.{given_some}
 use Rattle.object_kinds.proofs.Proper.{noting}

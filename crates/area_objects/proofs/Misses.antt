@@ -1,19 +1,12 @@
 -- The lead of an area misses no entry that may follow.
 use Rattle.std.proofs.Common.{◌≡◌, ℕ, true, not, refl, sym, ◌∙◌, ap, subst, Option, Some, None, is_some}
 use Rattle.std.specs.Prelude.{is_none}
-use Rattle.std.proofs.lemmas.Bool.{false≢true}
-use Rattle.rte_value.specs.declared.kinds.ActKey.{ActKey}
+use Rattle.bus_semantics.specs.Common.{false≢true, ActKey, Plan, kind_of, Past, is_held, is_open, enters_by, Follows, IsPastOf, IsSound}
 use Rattle.bus_semantics.specs.declared.script.Mapping.{Mapping}
 use Rattle.bus_semantics.specs.declared.entries.Actor.{Actor}
 use Rattle.bus_semantics.specs.declared.entries.Actor.TheVariants.{Act}
 use Rattle.bus_semantics.specs.declared.entries.Deed.{Deed}
 use Rattle.bus_semantics.specs.declared.entries.Deed.TheVariants as deed
-use Rattle.bus_semantics.specs.Plan.{Plan, kind_of}
-use Rattle.bus_semantics.specs.History.{Past}
-use Rattle.bus_semantics.specs.Areas.{is_held}
-use Rattle.bus_semantics.specs.Matching.{is_open, enters_by}
-use Rattle.bus_semantics.specs.Pasts.{Follows, IsPastOf}
-use Rattle.bus_semantics.specs.Sound.{IsSound}
 use Rattle.area_objects.specs.Held.{is_held_by}
 use Rattle.object_kinds.proofs.Classes.{On}
 use Rattle.object_kinds.proofs.Numbers.{an_area}

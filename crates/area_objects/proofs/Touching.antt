@@ -6,10 +6,7 @@ use Rattle.bus_semantics.specs.declared.plan.EventKind.TheVariants.{Timing}
 use Rattle.bus_semantics.specs.declared.script.Mapping.{Mapping}
 use Rattle.bus_semantics.specs.declared.entries.Actor.{Actor}
 use Rattle.bus_semantics.specs.declared.entries.Deed.{Deed}
-use Rattle.bus_semantics.specs.Plan.{Plan}
-use Rattle.bus_semantics.specs.Objects.{first_area, touches}
-use Rattle.bus_semantics.specs.Locality.{is_proper}
-use Rattle.bus_semantics.specs.Sound.{IsSound}
+use Rattle.bus_semantics.specs.Common.{Plan, first_area, touches, is_proper, IsSound}
 use Rattle.object_kinds.proofs.Classes.{On, StartsOn, touching_on}
 use Rattle.object_kinds.proofs.Numbers.{an_area}
 use Rattle.object_kinds.proofs.Proper.{noting}

@@ -1,7 +1,6 @@
 -- What an exclusive area keeps, and what each call makes of it (SWS_RTE: Rte_Enter, Rte_Exit).
 use Rattle.std.specs.Prelude.{Bool, false, Option, Some, None, if◌then◌else◌}
-use Rattle.rte_value.specs.Values.{same_key}
-use Rattle.rte_value.specs.declared.kinds.ActKey.{ActKey}
+use Rattle.bus_semantics.specs.Common.{same_key, ActKey}
 use Rattle.area_objects.specs.declared.held.Entered.{Entered}
 use Rattle.area_objects.specs.declared.held.Entered.TheVariants.{In, Held}
 

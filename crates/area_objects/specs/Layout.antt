@@ -1,7 +1,6 @@
 -- What of a plan belongs to an exclusive area: its number.
 use Rattle.std.specs.Prelude.{◌≤◌, ◌<◌, ◌-◌, ℕ}
-use Rattle.bus_semantics.specs.Plan.{Plan}
-use Rattle.bus_semantics.specs.Objects.{first_area, first_machine}
+use Rattle.bus_semantics.specs.Common.{Plan, first_area, first_machine}
 
 -- the object is one of the plan's areas
 pub record IsArea (p : Plan) (object : ℕ) : Type 0 where

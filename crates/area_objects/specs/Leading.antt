@@ -1,13 +1,11 @@
 -- The lead: what an area keeps after an entry if it kept that before, or nothing if it would not answer so. It is a function of
 -- plain data, and knows no history. The entry touches the area.
 use Rattle.std.specs.Prelude.{Bool, false, Option, Some, None, is_none}
-use Rattle.rte_value.specs.declared.kinds.ActKey.{ActKey}
+use Rattle.bus_semantics.specs.Common.{ActKey, Noted, Wanted, to_enter}
 use Rattle.bus_semantics.specs.declared.entries.Actor.{Actor}
 use Rattle.bus_semantics.specs.declared.entries.Actor.TheVariants.{Act}
 use Rattle.bus_semantics.specs.declared.entries.Deed.{Deed}
 use Rattle.bus_semantics.specs.declared.entries.Deed.TheVariants as deed
-use Rattle.bus_semantics.specs.History.{Noted}
-use Rattle.bus_semantics.specs.Wanted.{Wanted, to_enter}
 use Rattle.area_objects.specs.Held.{is_held_by}
 use Rattle.object_kinds.specs.declared.acted.Shown.{Shown}
 use Rattle.object_kinds.specs.declared.acted.Shown.TheVariants.{HeldBy, Unmatched}

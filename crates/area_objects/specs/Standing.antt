@@ -1,11 +1,7 @@
 -- What an area keeps, as the definitions give it from a past of the area.
 use Rattle.std.specs.Prelude.{◌≡◌, ℕ, true, Some, is_some}
-use Rattle.rte_value.specs.declared.kinds.ActKey.{ActKey}
+use Rattle.bus_semantics.specs.Common.{ActKey, Plan, Past, is_held, is_open, enters_by}
 use Rattle.bus_semantics.specs.declared.entries.Actor.TheVariants.{Act}
-use Rattle.bus_semantics.specs.Plan.{Plan}
-use Rattle.bus_semantics.specs.History.{Past}
-use Rattle.bus_semantics.specs.Areas.{is_held}
-use Rattle.bus_semantics.specs.Matching.{is_open, enters_by}
 use Rattle.area_objects.specs.Layout.{IsArea, area_of}
 use Rattle.area_objects.specs.Kept.{Kept}
 

@@ -1,8 +1,7 @@
 //! An exclusive area as an object.
 
 ghost use Rattle.std.specs.Prelude.{◌≡◌, ℕ};
-ghost use Rattle.bus_semantics.specs.Plan.{Plan};
-ghost use Rattle.bus_semantics.specs.Wanted.{to_enter, to_leave, wanted_of};
+ghost use Rattle.bus_semantics.specs.Common.{Plan, to_enter, to_leave, wanted_of};
 ghost use Rattle.object_kinds.specs.Kinds.{IsAnswerOf};
 ghost use Rattle.area_objects.specs.Kept.{opening, may_start};
 ghost use Rattle.area_objects.specs.Leading.{lead, why_held};

@@ -1,15 +1,9 @@
 //! Laws of areas.
 
 ghost use Rattle.std.specs.Prelude.{◌≡◌, ℕ, [], true};
-ghost use Rattle.rte_value.specs.declared.kinds.ActKey.{ActKey};
+ghost use Rattle.bus_semantics.specs.Common.{ActKey, Plan, Past, is_held, is_open, enters_by, IsPastOf, IsSound};
 ghost use Rattle.bus_semantics.specs.declared.entries.Actor.TheVariants.{Act};
 ghost use Rattle.bus_semantics.specs.declared.script.Mapping.{Mapping};
-ghost use Rattle.bus_semantics.specs.Plan.{Plan};
-ghost use Rattle.bus_semantics.specs.History.{Past};
-ghost use Rattle.bus_semantics.specs.Areas.{is_held};
-ghost use Rattle.bus_semantics.specs.Matching.{is_open, enters_by};
-ghost use Rattle.bus_semantics.specs.Pasts.{IsPastOf};
-ghost use Rattle.bus_semantics.specs.Sound.{IsSound};
 ghost use Rattle.object_kinds.specs.Kinds.{LeadsFollow, LeadsKeep, MissesNothing, StartsByFlag, OthersWakeNothing};
 ghost use Rattle.area_objects.specs.Layout.{IsArea, area_of};
 ghost use Rattle.area_objects.specs.Kept.{opening, may_start};

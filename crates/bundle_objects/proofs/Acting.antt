@@ -1,36 +1,16 @@
 -- What the calls of a bundle answer is what its lead gives, and no entry of the wish leads on where nothing was done.
 use Rattle.std.proofs.Common.{◌≡◌, ◌<◌, ◌≤◌, ℕ, ℤ, Bool, true, false, refl, sym, ◌∙◌, ap, subst, arith, List, [], ◌∷◌, length, map, set, Option, Some, None}
 use Rattle.std.specs.Prelude.{option_and_then, option_map, unwrap_or}
-use Rattle.std.specs.List.{Contains, slice_get}
-use Rattle.std.specs.Option.{option_map_or}
-use Rattle.std.proofs.lemmas.Bool.{false≢true}
-use Rattle.std.proofs.lemmas.List.{length-set}
-use Rattle.std.proofs.lemmas.Option.{same_Some}
-use Rattle.rte_value.specs.declared.value.Value.{Value}
-use Rattle.rte_value.specs.Values.{words_of, same_words}
-use Rattle.rte_value.specs.EqualValues.{length-words_of, same_words-Decides}
-use Rattle.bus_semantics.specs.declared.entries.Actor.{Actor}
-use Rattle.bus_semantics.specs.declared.entries.Actor.TheVariants.{Act}
-use Rattle.bus_semantics.specs.declared.entries.Deed.{Deed}
+use Rattle.bus_semantics.specs.Common.{Contains, slice_get, option_map_or, false≢true, length-set, same_Some, Value, words_of, same_words, length-words_of, same_words-Decides, Plan}
+use Rattle.bus_semantics.specs.Common.{group_of, elems_of, marked, split, bundle_of, groups_at, Noted, Wanted, to_start, to_fetch, to_read, to_write, to_invalidate, to_see_updated}
+use Rattle.bus_semantics.specs.Common.{to_publish, to_fetch_all, to_publish_all, wanted_by, is_in_group, last_in, plain_key, answer_fits, event_of, noted_for}
+use Rattle.bus_laws.specs.Common.{Actor, Act, Deed, Entry}
 use Rattle.bus_semantics.specs.declared.entries.Deed.TheVariants as deed
-use Rattle.bus_semantics.specs.declared.entries.Entry.{Entry}
-use Rattle.bus_semantics.specs.Plan.{Plan, group_of}
-use Rattle.bus_semantics.specs.Lists.{elems_of, marked, split}
-use Rattle.bus_semantics.specs.Bundles.{bundle_of, groups_at}
-use Rattle.bus_semantics.specs.History.{Noted}
-use Rattle.bus_semantics.specs.Wanted.{Wanted, to_start, to_fetch, to_read, to_write, to_invalidate, to_see_updated, to_publish, to_fetch_all, to_publish_all, wanted_by}
-use Rattle.bus_semantics.specs.Unqueued.{is_in_group, last_in}
-use Rattle.bus_semantics.specs.Rest.{plain_key}
-use Rattle.bus_semantics.specs.Fitting.{answer_fits}
-use Rattle.bus_semantics.specs.Asked.{event_of, noted_for}
 use Rattle.object_kinds.specs.declared.acted.Acted.{Acted}
 use Rattle.object_kinds.specs.declared.acted.Acted.TheVariants.{Done, NotYet}
 use Rattle.object_kinds.specs.declared.acted.Shown.{Shown}
 use Rattle.object_kinds.specs.declared.acted.Shown.TheVariants.{Unmatched}
-use Rattle.object_kinds.specs.Kinds.{IsMadeBy, IsHeldBy, IsAnswerOf}
-use Rattle.object_kinds.specs.Layout.{place}
-use Rattle.object_kinds.specs.Flags.{given}
-use Rattle.object_kinds.specs.Rising.{is_rising}
+use Rattle.object_kinds.specs.Common.{IsMadeBy, IsHeldBy, IsAnswerOf, place, given, is_rising}
 use Rattle.object_kinds.proofs.Lists.{set_same}
 use Rattle.object_kinds.proofs.Options.{number_is, then_some}
 use Rattle.object_kinds.proofs.Placing.{place_at}

@@ -1,16 +1,10 @@
 -- What a stored value makes pending is told, of whatever group, and nothing else; and there is room for it.
-use Rattle.std.proofs.Common.{◌≡◌, ◌⊎◌, ◌<◌, ◌≤◌, ◌+◌, ℕ, zero, suc, Bool, true, false, not, count_by, refl, sym, ◌∙◌, ap, subst, arith, inl, inr, List, [], ◌∷◌, length, replicate, get_or, set, Option, Some, None}
+use Rattle.std.proofs.Common.{◌≡◌, ◌⊎◌, ◌<◌, ◌≤◌, ◌+◌, ℕ, zero, suc, Bool, true, false, not, count_by, refl, sym, ◌∙◌, ap, subst, arith, inl, inr, List, [], ◌∷◌, length, replicate, get_or}
+use Rattle.std.proofs.Common.{set, Option, Some, None}
 use Rattle.std.specs.Prelude.{option_and_then, sum_by}
-use Rattle.std.specs.List.{Contains, list_all, slice_get}
-use Rattle.std.specs.Option.{option_map_or}
-use Rattle.std.proofs.lemmas.Bool.{false≢true}
+use Rattle.bus_semantics.specs.Common.{Contains, list_all, slice_get, option_map_or, false≢true, slice_get_within, get_or_from_slice_get, Value, Plan, group_of, kind_of}
 use Rattle.std.proofs.lemmas.List.Sums.{sum_by-set}
-use Rattle.std.proofs.lemmas.Option.{slice_get_within, get_or_from_slice_get}
-use Rattle.rte_value.specs.declared.value.Value.{Value}
-use Rattle.bus_semantics.specs.Plan.{Plan, group_of, kind_of}
-use Rattle.object_kinds.specs.Flags.{is_set, is_pending}
-use Rattle.object_kinds.specs.Layout.{place, waits_for_data}
-use Rattle.object_kinds.specs.Rising.{is_rising}
+use Rattle.object_kinds.specs.Common.{is_set, is_pending, place, waits_for_data, is_rising}
 use Rattle.object_kinds.proofs.Events.{waiting_for, events_all}
 use Rattle.object_kinds.proofs.Lists.{all_at}
 use Rattle.object_kinds.proofs.Options.{number_is}

@@ -1,21 +1,14 @@
 -- A bundle as the code has it: its groups by place, and what a call on one of them makes of the whole.
 use Rattle.std.proofs.Common.{◌≡◌, ◌<◌, ◌≤◌, ◌+◌, ◌⊎◌, ℕ, true, false, not, count_by, refl, sym, ◌∙◌, ap, subst, arith, inl, inr, List, [], ◌∷◌, length, map, set, get_or, Option, Some, None}
 use Rattle.std.specs.Prelude.{IfSome, nat_lt, sum_by}
-use Rattle.std.specs.List.{Contains, list_all, slice_get}
-use Rattle.std.specs.Option.{option_map_or}
-use Rattle.std.proofs.lemmas.Bool.{ltb-true}
-use Rattle.std.proofs.lemmas.List.{length-map, map-set}
+use Rattle.bus_semantics.specs.Common.{Contains, list_all, slice_get, option_map_or, ltb-true, length-map, map-set, slice_get-get_or, slice_get_within, get_or_from_slice_get, Value, Plan}
+use Rattle.bus_semantics.specs.Common.{Wanted}
 use Rattle.std.proofs.lemmas.List.Sums.{sum_by-cons, sum_by-le-sum_by, get_or-le-sum_by, count_by-le-length}
-use Rattle.std.proofs.lemmas.Option.{slice_get-get_or, slice_get_within, get_or_from_slice_get}
-use Rattle.rte_value.specs.declared.value.Value.{Value}
 use Rattle.bus_semantics.specs.declared.entries.Actor.{Actor}
-use Rattle.bus_semantics.specs.Plan.{Plan}
-use Rattle.bus_semantics.specs.Wanted.{Wanted}
 use Rattle.object_kinds.specs.declared.acted.Acted.{Acted}
 use Rattle.object_kinds.specs.declared.acted.Acted.TheVariants.{NotYet}
 use Rattle.object_kinds.specs.declared.acted.Shown.{Shown}
-use Rattle.object_kinds.specs.Kinds.{IsAnswerOf}
-use Rattle.object_kinds.specs.Layout.{place}
+use Rattle.object_kinds.specs.Common.{IsAnswerOf, place}
 use Rattle.object_kinds.proofs.Lists.{mapped_at, all_at}
 use Rattle.object_kinds.proofs.Placing.{place_within}
 use Rattle.data_objects.specs.Acting.{IsWishIn}

@@ -2,29 +2,12 @@
 -- group is that group's, and leaves the others as they were.
 use Rattle.std.proofs.Common.{◌≡◌, ◌≤◌, ℕ, ℤ, Bool, true, false, ◌==◌, ◌||◌, refl, sym, ◌∙◌, ap, subst, arith, List, [], ◌∷◌, ◌++◌, length, map, set, Option, Some, None}
 use Rattle.std.specs.Prelude.{flat_map, option_and_then, option_map}
-use Rattle.std.specs.List.{list_any, list_all, slice_get}
-use Rattle.std.specs.Option.{option_map_or}
-use Rattle.std.proofs.lemmas.Bool.{or_left, or_right, false≢true, eq-eqb}
-use Rattle.std.proofs.lemmas.Option.{same_Some}
-use Rattle.rte_value.specs.declared.value.Value.{Value}
-use Rattle.rte_value.specs.Values.{words_of, same_words}
-use Rattle.rte_value.specs.EqualValues.{length-words_of}
-use Rattle.bus_semantics.specs.declared.entries.Actor.{Actor}
-use Rattle.bus_semantics.specs.declared.entries.Deed.{Deed}
+use Rattle.bus_semantics.specs.Common.{list_any, list_all, slice_get, option_map_or, or_left, or_right, false≢true, eq-eqb, same_Some, Value, words_of, same_words, length-words_of, Plan}
+use Rattle.bus_semantics.specs.Common.{group_of, kind_of, elems_of, marked, split, home_of, bundle_of, bundle_of_list, Noted, Past, touches, value_at, moment_of, listed_in, Answers, matches}
+use Rattle.bus_semantics.specs.Common.{is_proper}
+use Rattle.bus_laws.specs.Common.{Actor, Deed}
 use Rattle.bus_semantics.specs.declared.entries.Deed.TheVariants as deed
-use Rattle.bus_semantics.specs.Plan.{Plan, group_of, kind_of}
-use Rattle.bus_semantics.specs.Lists.{elems_of, marked, split}
-use Rattle.bus_semantics.specs.Bundles.{home_of, bundle_of, bundle_of_list}
-use Rattle.bus_semantics.specs.History.{Noted, Past}
-use Rattle.bus_semantics.specs.Objects.{touches}
-use Rattle.bus_semantics.specs.Unqueued.{value_at, moment_of, listed_in}
-use Rattle.bus_semantics.specs.Legal.{Answers}
-use Rattle.bus_semantics.specs.Matching.{matches}
-use Rattle.bus_semantics.specs.Locality.{is_proper}
-use Rattle.object_kinds.specs.Kinds.{LeadsFollow, LeadsKeep}
-use Rattle.object_kinds.specs.Layout.{place, waits_for_data, members_of}
-use Rattle.object_kinds.specs.Flags.{given, is_set}
-use Rattle.object_kinds.specs.Rising.{is_rising}
+use Rattle.object_kinds.specs.Common.{LeadsFollow, LeadsKeep, place, waits_for_data, members_of, given, is_set, is_rising}
 use Rattle.object_kinds.proofs.Events.{events_all}
 use Rattle.object_kinds.proofs.Lists.{all_at}
 use Rattle.object_kinds.proofs.Members.{member_of, member_placed}
@@ -44,7 +27,8 @@ use Rattle.bundle_objects.specs.Kept.{Kept, route}
 use Rattle.bundle_objects.specs.Leading.{part_of, number_at, with_part, lead_part, value_kept, moment_in, after_publication, publish, part_at, lead_by, lead}
 use Rattle.bundle_objects.specs.Standing.{Keeps}
 use Rattle.bundle_objects.specs.Words.{value_of}
-use Rattle.bundle_objects.proofs.Parts.{set_here, set_there, numbers_rise, group_placed, number_home, one_place, number_is_at, part_inside, inside_part, Part, part_found, Number, number_found, At, here, elsewhere, compared}
+use Rattle.bundle_objects.proofs.Parts.{set_here, set_there, numbers_rise, group_placed, number_home, one_place, number_is_at, part_inside, inside_part, Part, part_found, Number}
+use Rattle.bundle_objects.proofs.Parts.{number_found, At, here, elsewhere, compared}
 use Rattle.bundle_objects.proofs.Stored.{Same, part_set_same, taken_by, publish_same, published_part, last_short}
 use Rattle.bundle_objects.proofs.Words.{words_of_value}
 

@@ -1,18 +1,9 @@
 -- A bundle as it is made: each group has those of the bundle's events that wait for it.
 use Rattle.std.proofs.Common.{◌≡◌, ◌<◌, ◌≤◌, ℕ, suc, Bool, true, false, ◌&&◌, ◌==◌, if◌then◌else◌, refl, sym, ◌∙◌, ap, subst, arith, List, [], ◌∷◌, length, map, Option, Some, None}
 use Rattle.std.specs.Prelude.{filter, nat_lt, option_and_then, unwrap_or}
-use Rattle.std.specs.List.{list_all, slice_get}
-use Rattle.std.proofs.lemmas.Bool.{false≢true, eq-eqb, eqb-true}
-use Rattle.std.proofs.lemmas.Bool.Decides.{nat_tests}
-use Rattle.std.proofs.lemmas.List.{length-map}
-use Rattle.std.proofs.lemmas.Option.{same_Some, slice_get_within}
-use Rattle.rte_value.specs.Values.{same_number}
-use Rattle.bus_semantics.specs.declared.plan.EventKind.{EventKind}
-use Rattle.bus_semantics.specs.declared.plan.EventKind.TheVariants.{DataReceived}
-use Rattle.bus_semantics.specs.Plan.{Plan, group_of, kind_of, positions}
-use Rattle.bus_semantics.specs.Bundles.{home_of, bundle_of, groups_at}
-use Rattle.bus_semantics.specs.Unqueued.{is_in_group}
-use Rattle.bus_semantics.specs.SoundLists.{bundles_fit}
+use Rattle.bus_semantics.specs.Common.{list_all, slice_get, false≢true, eq-eqb, eqb-true, nat_tests, length-map, same_Some, slice_get_within, same_number, Plan, group_of, kind_of, positions}
+use Rattle.bus_semantics.specs.Common.{home_of, bundle_of, groups_at, is_in_group, bundles_fit}
+use Rattle.bus_laws.specs.Common.{EventKind, DataReceived}
 use Rattle.bus_laws.proofs.Bundling.{begins, begun_home, home_there, homes_counted, positions_counted}
 use Rattle.object_kinds.specs.Layout.{place, element_in, events_of, waits_for_data, waits_in_bundle}
 use Rattle.object_kinds.proofs.Lists.{mapped_at}

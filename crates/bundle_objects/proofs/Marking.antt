@@ -1,12 +1,9 @@
 -- The words of the marked elements of a list, element by element.
-use Rattle.std.proofs.Common.{◌≡◌, ◌⊎◌, ◌<◌, ◌≤◌, ◌+◌, ◌/◌, ◌%◌, ◌==◌, ℕ, ℤ, zero, suc, true, false, if◌then◌else◌, refl, sym, ◌∙◌, ap, subst, arith, inl, inr, List, [], ◌∷◌, ◌++◌, length, length-append, take, drop, get_or, min, Some}
+use Rattle.std.proofs.Common.{◌≡◌, ◌⊎◌, ◌<◌, ◌≤◌, ◌+◌, ◌/◌, ◌%◌, ◌==◌, ℕ, ℤ, zero, suc, true, false, if◌then◌else◌, refl, sym, ◌∙◌, ap, subst, arith, inl, inr, List, [], ◌∷◌, ◌++◌, length}
+use Rattle.std.proofs.Common.{length-append, take, drop, get_or, min, Some}
 use Rattle.std.specs.Prelude.{flat_map}
-use Rattle.std.specs.Option.{option_map_or}
-use Rattle.std.proofs.lemmas.Bool.{cases_lt}
-use Rattle.std.proofs.lemmas.List.{take_all, drop_more, length-take}
-use Rattle.rte_value.specs.Values.{words_of}
-use Rattle.bus_semantics.specs.Plan.{Plan}
-use Rattle.bus_semantics.specs.Lists.{words_at, marked, split}
+use Rattle.bus_semantics.specs.Common.{option_map_or, cases_lt, take_all, drop_more, words_of, Plan, words_at, marked, split}
+use Rattle.std.proofs.lemmas.List.{length-take}
 use Rattle.bundle_objects.specs.Kept.{Kept}
 use Rattle.bundle_objects.specs.Leading.{value_kept, moment_in, store, publish}
 use Rattle.bundle_objects.specs.Words.{value_of}

@@ -1,27 +1,11 @@
 -- A bundle of a sound plan misses no entry that may follow its past.
 use Rattle.std.proofs.Common.{◌≡◌, ℕ, Bool, true, false, not, refl, sym, ◌∙◌, ap, subst, List, Option, Some, None, is_some}
 use Rattle.std.specs.Prelude.{option_and_then, option_map, map, unwrap_or}
-use Rattle.std.specs.List.{slice_get}
-use Rattle.std.specs.Option.{option_map_or}
-use Rattle.rte_value.specs.declared.value.Value.{Value}
-use Rattle.rte_value.specs.Values.{words_of, same_words}
-use Rattle.bus_semantics.specs.declared.plan.EventKind.{EventKind}
-use Rattle.bus_semantics.specs.declared.plan.EventKind.TheVariants.{DataReceived}
-use Rattle.bus_semantics.specs.declared.script.Mapping.{Mapping}
-use Rattle.bus_semantics.specs.declared.entries.Actor.{Actor}
-use Rattle.bus_semantics.specs.declared.entries.Deed.{Deed}
+use Rattle.bus_semantics.specs.Common.{slice_get, option_map_or, Value, words_of, same_words, Plan, group_of, kind_of, elems_of, home_of, bundle_of, groups_at, Past, is_in_group, Answers}
+use Rattle.bus_semantics.specs.Common.{is_proper, IsSound}
+use Rattle.bus_laws.specs.Common.{EventKind, DataReceived, Mapping, Actor, Deed}
 use Rattle.bus_semantics.specs.declared.entries.Deed.TheVariants as deed
-use Rattle.bus_semantics.specs.Plan.{Plan, group_of, kind_of}
-use Rattle.bus_semantics.specs.Lists.{elems_of}
-use Rattle.bus_semantics.specs.Bundles.{home_of, bundle_of, groups_at}
-use Rattle.bus_semantics.specs.History.{Past}
-use Rattle.bus_semantics.specs.Unqueued.{is_in_group}
-use Rattle.bus_semantics.specs.Legal.{Answers}
-use Rattle.bus_semantics.specs.Locality.{is_proper}
-use Rattle.bus_semantics.specs.Sound.{IsSound}
-use Rattle.object_kinds.specs.Kinds.{MissesNothing}
-use Rattle.object_kinds.specs.Layout.{place, element_in, events_of, members_of, waits_for_data, waits_in_bundle}
-use Rattle.object_kinds.specs.Flags.{given}
+use Rattle.object_kinds.specs.Common.{MissesNothing, place, element_in, events_of, members_of, waits_for_data, waits_in_bundle, given}
 use Rattle.object_kinds.proofs.Classes.{StartsOn, On, touching_on}
 use Rattle.object_kinds.proofs.Events.{bundled_placed}
 use Rattle.object_kinds.proofs.Lists.{mapped_at, all_at}

@@ -1,10 +1,6 @@
 -- What a bundle keeps at first is what the definitions give from no entry.
 use Rattle.std.proofs.Common.{◌≡◌, ℕ, refl, sym, ◌∙◌, ap, subst, List, [], length, map, Some}
-use Rattle.std.specs.List.{slice_get}
-use Rattle.std.proofs.lemmas.List.{length-map}
-use Rattle.std.proofs.lemmas.Option.{same_Some}
-use Rattle.bus_semantics.specs.Plan.{Plan}
-use Rattle.bus_semantics.specs.Bundles.{home_of, groups_at}
+use Rattle.bus_semantics.specs.Common.{slice_get, length-map, same_Some, Plan, home_of, groups_at}
 use Rattle.object_kinds.proofs.Lists.{mapped_at}
 use Rattle.data_objects.specs.Kept as groups
 use Rattle.data_objects.specs.Standing.{GroupKeeps}

@@ -3,18 +3,10 @@ use Rattle.std.proofs.Common.{◌≡◌, ◌⊎◌, ◌<◌, ◌≤◌, ℕ, zer
 use mathlib.Core.Logic.{dite}
 use native.Mathlib.Decide.{ℕ_discrete}
 use Rattle.std.specs.Prelude.{option_and_then, filter}
-use Rattle.std.specs.List.{list_all, slice_get}
-use Rattle.std.specs.Option.{option_map_or}
-use Rattle.std.proofs.lemmas.Bool.{eq-eqb, eqb-true, false≢true}
-use Rattle.std.proofs.lemmas.List.{length-set}
-use Rattle.std.proofs.lemmas.Option.{same_Some, slice_get_within, get_or_from_slice_get}
-use Rattle.rte_value.specs.Values.{same_number}
-use Rattle.bus_semantics.specs.Plan.{Plan, group_of, kind_of, positions}
-use Rattle.bus_semantics.specs.Bundles.{home_of, bundle_of, groups_at}
-use Rattle.bus_semantics.specs.Unqueued.{is_in_group}
+use Rattle.bus_semantics.specs.Common.{list_all, slice_get, option_map_or, eq-eqb, eqb-true, false≢true, length-set, same_Some, slice_get_within, get_or_from_slice_get, same_number, Plan}
+use Rattle.bus_semantics.specs.Common.{group_of, kind_of, positions, home_of, bundle_of, groups_at, is_in_group}
 use Rattle.bus_laws.proofs.Bundling.{some_of}
-use Rattle.object_kinds.specs.Layout.{place, waits_for_data}
-use Rattle.object_kinds.specs.Rising.{is_rising}
+use Rattle.object_kinds.specs.Common.{place, waits_for_data, is_rising}
 use Rattle.object_kinds.proofs.Lists.{all_at, all_filter}
 use Rattle.object_kinds.proofs.Options.{number_is, is_number, then_some}
 use Rattle.object_kinds.proofs.Placing.{place_at, placed}

@@ -1,16 +1,9 @@
 -- A start goes by its flag, and only a write or a publication sets one.
 use Rattle.std.proofs.Common.{◌≡◌, ℕ, Bool, false, refl, sym, ◌∙◌, ap, subst, List, set, Option, Some, None}
 use Rattle.std.specs.Prelude.{option_and_then, option_map, unwrap_or}
-use Rattle.std.specs.List.{slice_get}
-use Rattle.std.specs.Option.{option_map_or}
-use Rattle.std.proofs.lemmas.Bool.{false≢true}
-use Rattle.rte_value.specs.Values.{words_of, same_words}
+use Rattle.bus_semantics.specs.Common.{slice_get, option_map_or, false≢true, words_of, same_words, Plan, elems_of, Noted, to_start, wanted_by}
 use Rattle.bus_semantics.specs.declared.entries.Deed.{Deed}
 use Rattle.bus_semantics.specs.declared.entries.Deed.TheVariants as deed
-use Rattle.bus_semantics.specs.Plan.{Plan}
-use Rattle.bus_semantics.specs.Lists.{elems_of}
-use Rattle.bus_semantics.specs.History.{Noted}
-use Rattle.bus_semantics.specs.Wanted.{to_start, wanted_by}
 use Rattle.object_kinds.specs.Kinds.{IsPlainStart, StartsByFlag, OthersWakeNothing}
 use Rattle.object_kinds.proofs.Options.{given_some, then_some, mapped_some}
 use Rattle.data_objects.specs.Kept as groups

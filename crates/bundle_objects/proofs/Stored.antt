@@ -1,17 +1,11 @@
 -- What a publication of a list stores: in each group the words of its last element that is the group's, and nothing in the others.
-use Rattle.std.proofs.Common.{◌≡◌, ◌≤◌, ◌-◌, ℕ, ℤ, Bool, true, false, ◌==◌, ◌/◌, ◌%◌, if◌then◌else◌, refl, sym, ◌∙◌, ap, subst, arith, List, [], ◌∷◌, length, take, drop, replicate, set, Option, Some, None}
+use Rattle.std.proofs.Common.{◌≡◌, ◌≤◌, ◌-◌, ℕ, ℤ, Bool, true, false, ◌==◌, ◌/◌, ◌%◌, if◌then◌else◌, refl, sym, ◌∙◌, ap, subst, arith, List, [], ◌∷◌, length, take, drop, replicate, set}
+use Rattle.std.proofs.Common.{Option, Some, None}
 use Rattle.std.specs.Prelude.{option_and_then}
-use Rattle.std.specs.List.{slice_get}
-use Rattle.std.specs.Option.{option_or, option_map_or}
-use Rattle.std.proofs.lemmas.Bool.{false≢true}
-use Rattle.std.proofs.lemmas.List.{length-replicate, length-set, length-take, length-drop}
-use Rattle.std.proofs.lemmas.Option.{same_Some}
-use Rattle.rte_value.specs.declared.value.Value.{Value}
-use Rattle.bus_semantics.specs.Plan.{Plan, group_of}
-use Rattle.bus_semantics.specs.Lists.{words_at, marked, split}
-use Rattle.bus_semantics.specs.Unqueued.{is_in_group, last_in}
-use Rattle.object_kinds.specs.Layout.{place}
-use Rattle.object_kinds.specs.Rising.{is_rising}
+use Rattle.bus_semantics.specs.Common.{slice_get, option_or, option_map_or, false≢true, length-replicate, length-set, length-drop, same_Some, Value, Plan, group_of, words_at, marked, split}
+use Rattle.bus_semantics.specs.Common.{is_in_group, last_in}
+use Rattle.std.proofs.lemmas.List.{length-take}
+use Rattle.object_kinds.specs.Common.{place, is_rising}
 use Rattle.data_objects.specs.Kept as groups
 use Rattle.bundle_objects.specs.Kept.{Kept}
 use Rattle.bundle_objects.specs.Leading.{part_of, with_part, after_publication, store_at, store, publish}

@@ -1,12 +1,7 @@
 -- A value of at most 16 words has these words.
 use Rattle.std.proofs.Common.{◌≡◌, ◌≤◌, ℤ, Bool, true, false, refl, sym, ◌∙◌, ap, List, length, replicate, ◌-◌, pos, arith}
 use Rattle.std.specs.Prelude.{nat_le}
-use Rattle.std.proofs.Math.Seq.{take-append_seam}
-use Rattle.std.proofs.lemmas.Bool.{false≢true}
-use Rattle.std.proofs.lemmas.Bool.Decides.{nat_tests}
-use Rattle.rte_value.specs.declared.value.Value.{Value}
-use Rattle.rte_value.specs.Values.{words_of}
-use Rattle.rte_value.specs.EqualValues.{Value-by_words, length-words_of}
+use Rattle.bus_semantics.specs.Common.{take-append_seam, false≢true, nat_tests, Value, words_of, Value-by_words, length-words_of}
 use Rattle.bundle_objects.specs.Words.{sized_value, value_of}
 
 words_sized : (ws : List ℤ) (b : Bool) (e : nat_le (length ws) 16 ≡ b) → b ≡ true → words_of (sized_value ws b e) ≡ ws

@@ -1,14 +1,8 @@
 -- What the calls of a bundle answer and tell.
 use Rattle.std.specs.Prelude.{◌≡◌, ◌<◌, ◌≤◌, ◌+◌, ◌⊎◌, ℕ, length, true, false, Option, Some, None, slice_get}
-use Rattle.std.specs.List.{Contains}
-use Rattle.rte_value.specs.declared.value.Value.{Value}
-use Rattle.rte_value.specs.Values.{words_of}
-use Rattle.bus_semantics.specs.declared.entries.Actor.{Actor}
+use Rattle.bus_semantics.specs.Common.{Contains, Value, words_of, Plan, elems_of, marked, split, Wanted, to_read, to_fetch, to_invalidate, to_see_updated}
+use Rattle.bus_laws.specs.Common.{Actor, Entry}
 use Rattle.bus_semantics.specs.declared.entries.Deed.TheVariants as deed
-use Rattle.bus_semantics.specs.declared.entries.Entry.{Entry}
-use Rattle.bus_semantics.specs.Plan.{Plan}
-use Rattle.bus_semantics.specs.Lists.{elems_of, marked, split}
-use Rattle.bus_semantics.specs.Wanted.{Wanted, to_read, to_fetch, to_invalidate, to_see_updated}
 use Rattle.object_kinds.specs.declared.acted.Acted.{Acted}
 use Rattle.object_kinds.specs.declared.acted.Acted.TheVariants.{Done, NotYet}
 use Rattle.object_kinds.specs.declared.acted.Shown.{Shown}

@@ -1,8 +1,6 @@
 -- What a bundle of groups of unqueued data elements keeps, as plain data.
 use Rattle.std.specs.Prelude.{ℕ, List, map, not, count_by, sum_by, Bool, false, Option, slice_get, option_and_then}
-use Rattle.std.specs.Option.{option_map_or}
-use Rattle.bus_semantics.specs.Plan.{Plan}
-use Rattle.bus_semantics.specs.Bundles.{groups_at}
+use Rattle.bus_semantics.specs.Common.{option_map_or, Plan, groups_at}
 use Rattle.object_kinds.specs.Layout.{events_of, waits_in_bundle, place}
 use Rattle.data_objects.specs.Kept as groups
 use Rattle.bundle_objects.specs.Layout.{place_of}

@@ -1,9 +1,6 @@
 -- What of a plan belongs to a bundle that coherent lists touch: its groups, and which of them an event waits for.
 use Rattle.std.specs.Prelude.{◌≡◌, ◌<◌, ℕ, ◌==◌, List, length, true, Some, option_and_then, unwrap_or}
-use Rattle.std.specs.List.{list_any}
-use Rattle.bus_semantics.specs.Plan.{Plan, group_of, kind_of}
-use Rattle.bus_semantics.specs.Lists.{elems_of}
-use Rattle.bus_semantics.specs.Bundles.{home_of, bundle_of, bundle_of_list, groups_at}
+use Rattle.bus_semantics.specs.Common.{list_any, Plan, group_of, kind_of, elems_of, home_of, bundle_of, bundle_of_list, groups_at}
 use Rattle.object_kinds.specs.Layout.{place, element_in}
 use Rattle.data_objects.specs.Layout.{IsUnqueuedGroup}
 

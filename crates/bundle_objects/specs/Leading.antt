@@ -2,20 +2,13 @@
 -- plan and of plain data, and knows no history. An entry on one element is its group's; a fetch of a list has the values of its elements at
 -- this one moment, and a publication of a list stores all its values at once, one after the other in the list's order.
 use Rattle.std.specs.Prelude.{ℕ, ℤ, List, [], ◌∷◌, flat_map, get_or, set, Bool, true, false, Option, Some, None, option_map, option_and_then, slice_get}
-use Rattle.std.specs.Option.{option_map_or}
-use Rattle.rte_value.specs.declared.value.Value.{Value}
-use Rattle.rte_value.specs.Values.{words_of, same_words}
+use Rattle.bus_semantics.specs.Common.{option_map_or, Value, words_of, same_words, Plan, group_of, elems_of, marked, split, Noted, Wanted, to_start}
 use Rattle.bus_semantics.specs.declared.entries.Deed.{Deed}
 use Rattle.bus_semantics.specs.declared.entries.Deed.TheVariants as deed
-use Rattle.bus_semantics.specs.Plan.{Plan, group_of}
-use Rattle.bus_semantics.specs.Lists.{elems_of, marked, split}
-use Rattle.bus_semantics.specs.History.{Noted}
-use Rattle.bus_semantics.specs.Wanted.{Wanted, to_start}
 use Rattle.data_objects.specs.KeptValues as data_kept
 use Rattle.object_kinds.specs.declared.acted.Shown.{Shown}
 use Rattle.object_kinds.specs.declared.acted.Shown.TheVariants.{NotDue, Unmatched}
-use Rattle.object_kinds.specs.Layout.{place}
-use Rattle.object_kinds.specs.Flags.{given}
+use Rattle.object_kinds.specs.Common.{place, given}
 use Rattle.data_objects.specs.Kept as groups
 use Rattle.data_objects.specs.Leading.{group_lead, value_in}
 use Rattle.bundle_objects.specs.Kept.{Kept, route}

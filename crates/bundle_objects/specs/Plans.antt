@@ -1,7 +1,6 @@
 -- A bundle as it is of a plan: all in it that no call changes.
 use Rattle.std.specs.Prelude.{◌≡◌, ℕ, map, length, slice_get, Some}
-use Rattle.bus_semantics.specs.Plan.{Plan}
-use Rattle.bus_semantics.specs.Bundles.{groups_at}
+use Rattle.bus_semantics.specs.Common.{Plan, groups_at}
 use Rattle.object_kinds.specs.Layout.{events_of, waits_in_bundle}
 use Rattle.data_objects.specs.Kept as groups
 use Rattle.data_objects.specs.Plans.{IsGroupOfPlan}

@@ -1,8 +1,6 @@
 -- What a bundle keeps, as the definitions give it from a past of the bundle: each group what they give from all of that past.
 use Rattle.std.specs.Prelude.{◌≡◌, ℕ, map, length, slice_get, Some}
-use Rattle.bus_semantics.specs.Plan.{Plan}
-use Rattle.bus_semantics.specs.Bundles.{groups_at}
-use Rattle.bus_semantics.specs.History.{Past}
+use Rattle.bus_semantics.specs.Common.{Plan, groups_at, Past}
 use Rattle.object_kinds.specs.Layout.{events_of, waits_in_bundle}
 use Rattle.data_objects.specs.Kept as groups
 use Rattle.data_objects.specs.Standing.{GroupKeeps}

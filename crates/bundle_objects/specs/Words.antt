@@ -1,11 +1,7 @@
 -- The value of these words, if there are at most 16.
 use Rattle.std.specs.Prelude.{◌≡◌, ◌-◌, ℤ, pos, List, length, replicate, Bool, true, false, nat_le}
 use Rattle.std.proofs.Common.{refl, sym, ap}
-use Rattle.std.proofs.Math.Seq.{take-append_seam}
-use Rattle.std.proofs.lemmas.Bool.{leb-true}
-use Rattle.rte_value.specs.declared.value.Value.{Value}
-use Rattle.rte_value.specs.Padding.{padded}
-use Rattle.rte_value.specs.ShortValues.{empty_value}
+use Rattle.bus_semantics.specs.Common.{take-append_seam, leb-true, Value, padded, empty_value}
 
 abbrev pub sized_value : (ws : List ℤ) → (short : Bool) → nat_le (length ws) 16 ≡ short → Value
 sized_value ws true short = record { words = padded ws; len = length ws; short = leb-true (length ws) 16 short; padded = ap padded (sym (take-append_seam ws (replicate (16 - length ws) (pos 0)))) }

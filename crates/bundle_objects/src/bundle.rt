@@ -1,14 +1,9 @@
 //! Groups of unqueued data elements that coherent access lists connect, with the plan's events that wait for them.
 
 ghost use Rattle.std.specs.Prelude.{◌≡◌, ◌<◌, ◌≤◌, ◌+◌, ℕ, [], length, slice_get, true, false, Some, IfSome};
-ghost use Rattle.std.specs.List.{Contains};
-ghost use Rattle.rte_value.specs.Values.{words_of};
+ghost use Rattle.bus_semantics.specs.Common.{Contains, words_of, Plan, plan_of, groups_fit, to_start, wanted_of, object_of, touched};
 ghost use Rattle.bus_semantics.specs.declared.entries.Deed.TheVariants as deed;
 ghost use Rattle.bus_semantics.specs.declared.entries.Entry.{Entry};
-ghost use Rattle.bus_semantics.specs.Plan.{Plan, plan_of};
-ghost use Rattle.bus_semantics.specs.SoundPlan.{groups_fit};
-ghost use Rattle.bus_semantics.specs.Wanted.{to_start, wanted_of};
-ghost use Rattle.bus_semantics.specs.Objects.{object_of, touched};
 ghost use Rattle.object_kinds.specs.declared.acted.Shown.{Shown};
 ghost use Rattle.object_kinds.specs.declared.acted.Acted.TheVariants.{Done, NotYet};
 ghost use Rattle.object_kinds.specs.Kinds.{IsAnswerOf};

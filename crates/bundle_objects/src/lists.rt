@@ -1,10 +1,7 @@
 //! Coherent access lists on a bundle.
 
 ghost use Rattle.std.specs.Prelude.{◌≡◌, ◌<◌, ◌≤◌, ◌+◌, ℕ, drop, length, take, None, IfSome, true};
-ghost use Rattle.rte_value.specs.Values.{words_of};
-ghost use Rattle.bus_semantics.specs.Plan.{Plan, plan_of};
-ghost use Rattle.bus_semantics.specs.Lists.{elems_of, marked, split, words_at};
-ghost use Rattle.bus_semantics.specs.SoundPlan.{groups_fit};
+ghost use Rattle.bus_semantics.specs.Common.{words_of, Plan, plan_of, elems_of, marked, split, words_at, groups_fit};
 ghost use Rattle.bundle_objects.specs.Acting.{Adds, IsFetched, IsPublished};
 ghost use Rattle.bundle_objects.specs.Kept.{clear_in};
 ghost use Rattle.bundle_objects.specs.Leading.{moment_in, publish, store, value_kept};

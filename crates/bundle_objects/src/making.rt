@@ -1,12 +1,8 @@
 //! A bundle of a plan, made.
 
 ghost use Rattle.std.specs.Prelude.{◌≡◌, ◌<◌, ◌≤◌, ◌^◌, ℕ, IfOk, OnOk, get_or, length, map, sum_by, true, [], Some, slice_get};
-ghost use Rattle.bus_semantics.specs.Plan.{plan_of};
-ghost use Rattle.bus_semantics.specs.SoundPlan.{groups_fit};
-ghost use Rattle.bus_semantics.specs.SoundLists.{bundles_fit};
-ghost use Rattle.bus_semantics.specs.Bundles.{groups_at};
-ghost use Rattle.object_kinds.specs.Gathered.{listed_at};
-ghost use Rattle.object_kinds.specs.Layout.{events_of, waits_for_data, waits_in_bundle};
+ghost use Rattle.bus_semantics.specs.Common.{plan_of, groups_fit, bundles_fit, groups_at};
+ghost use Rattle.object_kinds.specs.Common.{listed_at, events_of, waits_for_data, waits_in_bundle};
 ghost use Rattle.data_objects.specs.Kept as groups;
 ghost use Rattle.data_objects.specs.Kept.{GroupState};
 ghost use Rattle.data_objects.specs.Layout.{IsUnqueuedGroup};

@@ -2,9 +2,7 @@
 
 ghost use Rattle.std.specs.Prelude.{◌≡◌, ◌<◌, ◌==◌, ℕ, IfOk, filter, length, map, true};
 ghost use Rattle.bus_semantics.specs.Plan.{plan_of, group_of, kind_of};
-ghost use Rattle.object_kinds.specs.Gathered.{listed_at};
-ghost use Rattle.object_kinds.specs.Layout.{element_in};
-ghost use Rattle.object_kinds.specs.Rising.{is_rising};
+ghost use Rattle.object_kinds.specs.Common.{listed_at, element_in, is_rising};
 ghost use Rattle.bundle_objects.specs.Layout.{place_among};
 
 use crate::Memory;

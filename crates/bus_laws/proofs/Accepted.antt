@@ -1,16 +1,9 @@
 -- A program of which nothing is refused is sound, where its numbers are in range.
 use Rattle.std.proofs.Common.{◌≡◌, ◌+◌, ℕ, Bool, true, false, not, ◌&&◌, ◌||◌, ◌==◌, nat_lt, nat_le, refl, arith, List, [], ◌∷◌, ◌++◌, length, Option, Some, None, is_some}
-use Rattle.std.specs.List.{list_all}
-use Rattle.std.proofs.lemmas.Bool.Decides.{nat_tests}
-use Rattle.std.proofs.lemmas.Bool.{and_from, and_parts, not-false}
-use Rattle.runnable_lang.specs.declared.program.AccessSig.{AccessSig}
-use Rattle.runnable_lang.specs.Trees.{StmtTree, chooses, repeats, in_area, BodyTree, done, next}
-use Rattle.runnable_lang.specs.Accesses.{has_access}
-use Rattle.runnable_lang.specs.Costs.{body_cost}
-use Rattle.runnable_lang.specs.Places.{Test, within, here, under, failing_in, failing_among, first}
-use Rattle.runnable_lang.specs.Refusals.{lacks_access, is_declared_before, is_call, calls_inside, is_too_large, failing, whole, of_rule, refusal}
-use Rattle.bus_semantics.specs.Plan.{Runnable}
-use Rattle.bus_semantics.specs.SoundPrograms.{is_in_range, is_declared_after, calls_outside, each_in, each_of, is_well_formed, body_sound}
+use Rattle.bus_semantics.specs.Common.{list_all, nat_tests, and_from, and_parts, AccessSig, StmtTree, chooses, repeats, in_area, BodyTree, done, next, has_access, body_cost, Test, within}
+use Rattle.bus_semantics.specs.Common.{here, under, failing_in, failing_among, first, lacks_access, is_declared_before, is_call, calls_inside, is_too_large, failing, whole, of_rule, refusal}
+use Rattle.bus_semantics.specs.Common.{Runnable, is_in_range, is_declared_after, calls_outside, each_in, each_of, is_well_formed, body_sound}
+use Rattle.std.proofs.lemmas.Bool.{not-false}
 
 -- ---- lists of which nothing is first
 

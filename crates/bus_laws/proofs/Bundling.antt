@@ -1,19 +1,13 @@
 -- Bundles of a sound plan: each begins with a group whose home it is, the least of those that lists connect.
-use Rattle.std.proofs.Common.{◌≡◌, ◌<◌, ◌≤◌, ℕ, zero, suc, Bool, true, false, ◌&&◌, ◌==◌, if◌then◌else◌, refl, sym, ◌∙◌, ap, subst, arith, List, [], ◌∷◌, ◌++◌, map, length, length-append, Option, Some, None}
+use Rattle.std.proofs.Common.{◌≡◌, ◌<◌, ◌≤◌, ℕ, zero, suc, Bool, true, false, ◌&&◌, ◌==◌, if◌then◌else◌, refl, sym, ◌∙◌, ap, subst, arith, List, [], ◌∷◌, ◌++◌, map, length, length-append}
+use Rattle.std.proofs.Common.{Option, Some, None}
 use mathlib.Core.Logic.{dite}
 use native.Mathlib.Decide.{ℕ_discrete}
 use Rattle.std.specs.Prelude.{filter, flat_map, option_and_then, nat_lt}
-use Rattle.std.specs.List.{list_all, slice_get}
-use Rattle.std.specs.Option.{option_map_or}
-use Rattle.std.proofs.lemmas.Bool.{and_parts, false≢true, ltb-true, eqb-true, eq-eqb, ne_eqb}
-use Rattle.std.proofs.lemmas.Option.{none-some, same_Some}
-use Rattle.std.proofs.lemmas.List.Elements.{filter-append}
-use Rattle.rte_value.specs.Values.{same_number}
+use Rattle.bus_semantics.specs.Common.{list_all, slice_get, option_map_or, and_parts, false≢true, ltb-true, eqb-true, eq-eqb, ne_eqb, none-some, same_Some, filter-append, same_number, Plan}
+use Rattle.bus_semantics.specs.Common.{every_from, positions, group_of, home_of, bundle_of, groups_at, leaders_by, is_rising, same_numbers, first_of, firsts, groups_fit, groups_listed}
+use Rattle.bus_semantics.specs.Common.{first_group, bundles_fit}
 use Rattle.bus_semantics.specs.declared.plan.ElemPlan.{ElemPlan}
-use Rattle.bus_semantics.specs.Plan.{Plan, every_from, positions, group_of}
-use Rattle.bus_semantics.specs.Bundles.{home_of, bundle_of, groups_at, leaders_by}
-use Rattle.bus_semantics.specs.SoundPlan.{is_rising, same_numbers, first_of, firsts, groups_fit}
-use Rattle.bus_semantics.specs.SoundLists.{groups_listed, first_group, bundles_fit}
 use Rattle.bus_laws.proofs.Thinning.{option_same, every_at}
 pub use Rattle.bus_laws.proofs.Thinning.{there_is as some_of}
 

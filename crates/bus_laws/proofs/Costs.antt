@@ -1,16 +1,11 @@
 -- A program makes at most twice as many calls of the bus as it costs: a call of an operation costs 1, and is an ask and an answer.
 use Rattle.std.proofs.Common.{◌+◌, ◌*◌, ◌≤◌, ℕ, zero, suc, ℤ, pos, Bool, true, false, if◌then◌else◌, arith, List, [], ◌∷◌, length}
-use Rattle.std.specs.Ordering.{int_eq}
+use Rattle.bus_semantics.specs.Common.{int_eq, StmtTree, sets, chooses, repeats, in_area, writes, reads, invalidates, asks_updated, sends, receives, writes_late, reads_early}
+use Rattle.bus_semantics.specs.Common.{writes_variable, reads_variable, writes_variable_late, reads_variable_early, calls, calls_and_goes_on, takes_result, switches, asks_mode, BodyTree}
+use Rattle.bus_semantics.specs.Common.{done, next, worth, stmt_cost, body_cost, Runnable, Wanted, to_hear, to_enter, to_leave, State, code_in, given, access, Outcome, Stop, Go, Running}
+use Rattle.bus_semantics.specs.Common.{goes_on, both, changing, calling, times, takes_nothing, takes_words, hears, asking_and_hearing, within_area, running, running_body}
 use Rattle.runnable_lang.specs.declared.program.AccessKind.TheVariants as kind
-use Rattle.runnable_lang.specs.Trees.{StmtTree, sets, chooses, repeats, in_area, writes, reads, invalidates, asks_updated, sends, receives, writes_late, reads_early, writes_variable, reads_variable, writes_variable_late, reads_variable_early, calls, calls_and_goes_on, takes_result, switches, asks_mode, BodyTree, done, next}
-use Rattle.runnable_lang.specs.Expressions.{worth}
-use Rattle.runnable_lang.specs.Costs.{stmt_cost, body_cost}
-use Rattle.bus_semantics.specs.declared.entries.Deed.{Deed}
-use Rattle.bus_semantics.specs.Plan.{Runnable}
-use Rattle.bus_semantics.specs.Wanted.{Wanted, to_hear, to_enter, to_leave}
-use Rattle.bus_semantics.specs.State.{State, code_in, given, access}
-use Rattle.bus_semantics.specs.Programs.{Outcome, Stop, Go, Running, goes_on, both, changing, calling, times, takes_nothing, takes_words, hears, asking_and_hearing, within_area, running, running_body}
-use Rattle.bus_laws.specs.Bounds.{UsesAtMost}
+use Rattle.bus_laws.specs.Common.{Deed, UsesAtMost}
 
 -- a run that makes at most so many calls, whatever the state and the answers
 abbrev Bounded : ℕ → Running → Type 0

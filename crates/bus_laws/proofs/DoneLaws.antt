@@ -1,10 +1,6 @@
 -- What `is_done` computes is that a start by the event and the end of that activation follow the machine's last phase.
 use Rattle.std.proofs.Common.{◌≡◌, ◌↔◌, ◌⊎◌, inl, inr, ℕ, [], ◌∷◌, ◌++◌, Bool, true, false, ◌||◌, if◌then◌else◌, refl, sym, ap, subst}
-use Rattle.std.specs.List.{list_any}
-use Rattle.std.proofs.lemmas.Bool.{false≢true, or_from, or_parts}
-use Rattle.bus_semantics.specs.History.{Noted, Past}
-use Rattle.bus_semantics.specs.Modes.{phase_of, is_phase}
-use Rattle.bus_semantics.specs.Owed.{is_start_by, is_end_by, started_in_phase, is_done}
+use Rattle.bus_semantics.specs.Common.{list_any, false≢true, or_from, or_parts, Noted, Past, phase_of, is_phase, is_start_by, is_end_by, started_in_phase, is_done}
 use Rattle.bus_laws.specs.Happened.{DoneInPhase}
 use Rattle.bus_laws.proofs.Thinning.{clash}
 

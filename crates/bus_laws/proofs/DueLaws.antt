@@ -1,18 +1,10 @@
 -- What `follows_last` computes is that something happened after the last start; for a timing event, a tick.
 use Rattle.std.proofs.Common.{◌≡◌, ◌↔◌, ℕ, suc, ◌%◌, [], ◌∷◌, ◌++◌, Bool, true, false, not, ◌&&◌, ◌||◌, ◌==◌, refl, sym, ◌∙◌, ap, subst}
-use Rattle.std.specs.List.{list_any}
-use Rattle.std.proofs.lemmas.Bool.{false≢true, eqb-true, or_from, or_parts}
+use Rattle.bus_semantics.specs.Common.{list_any, false≢true, eqb-true, or_from, or_parts, Plan, kind_of, Noted, Past, is_start_by, follows_last, is_due, is_due_kind, ticks_period, ticks}
+use Rattle.bus_semantics.specs.Common.{is_tick}
 use Rattle.std.specs.Cmp.{first_so, second_so}
-use Rattle.bus_semantics.specs.declared.entries.Actor.{Actor}
-use Rattle.bus_semantics.specs.declared.entries.Deed.{Deed}
+use Rattle.bus_laws.specs.Common.{Actor, Deed, EventKind, Timing, HappenedSince, TickedSince}
 use Rattle.bus_semantics.specs.declared.entries.Deed.TheVariants as deed
-use Rattle.bus_semantics.specs.declared.plan.EventKind.{EventKind}
-use Rattle.bus_semantics.specs.declared.plan.EventKind.TheVariants.{Timing}
-use Rattle.bus_semantics.specs.Plan.{Plan, kind_of}
-use Rattle.bus_semantics.specs.History.{Noted, Past}
-use Rattle.bus_semantics.specs.Owed.{is_start_by}
-use Rattle.bus_semantics.specs.Due.{follows_last, is_due, is_due_kind, ticks_period, ticks, is_tick}
-use Rattle.bus_laws.specs.Happened.{HappenedSince, TickedSince}
 
 -- one more entry, by whether it is a start and whether it did it
 one_more : (starts : Noted → Bool) (happened : Noted → Past → Bool) (n : Noted) (h : Past) (s g : Bool) → starts n ≡ s → happened n h ≡ g

@@ -1,16 +1,11 @@
 -- What `lists_sound` says, list by list: lists are numbered by runnable, one after the other, and each names its runnable.
 use Rattle.std.proofs.Common.{◌≡◌, ◌<◌, ◌≤◌, ℕ, zero, suc, ◌+◌, Bool, true, false, ◌&&◌, not, ◌==◌, cond, refl, sym, ◌∙◌, ap, subst, arith, List, [], ◌∷◌, ◌++◌, length, Option, Some, None}
 use Rattle.std.specs.Prelude.{flat_map, nat_le, position, unwrap_or}
-use Rattle.std.specs.List.{list_all, slice_get, prefix_len, position_or_len}
-use Rattle.std.specs.Option.{option_map_or}
-use Rattle.std.proofs.lemmas.Bool.{and_parts, eqb-true, eq-eqb, ne_eqb, leb-true, lt-ltb}
-use Rattle.std.proofs.lemmas.Option.{same_Some, slice_get_within}
+use Rattle.bus_semantics.specs.Common.{list_all, slice_get, position_or_len, option_map_or, and_parts, eqb-true, eq-eqb, ne_eqb, leb-true, lt-ltb, same_Some, slice_get_within, Plan}
+use Rattle.bus_semantics.specs.Common.{Runnable, look, every_from, positions, elems_of, words_of_all, position_of, is_in, is_distinct, same_numbers, accesses_elem, list_kind, list_sound}
+use Rattle.bus_semantics.specs.Common.{lists_sound}
+use Rattle.std.specs.List.{prefix_len}
 use Rattle.bus_semantics.specs.declared.plan.CoherentList.{CoherentList}
-use Rattle.bus_semantics.specs.Plan.{Plan, Runnable, look, every_from, positions}
-use Rattle.bus_semantics.specs.Lists.{elems_of, words_of_all}
-use Rattle.bus_semantics.specs.Spelling.{position_of}
-use Rattle.bus_semantics.specs.SoundPlan.{is_in, is_distinct, same_numbers}
-use Rattle.bus_semantics.specs.SoundLists.{accesses_elem, list_kind, list_sound, lists_sound}
 use Rattle.bus_laws.proofs.Thinning.{every_at, found_where}
 use Rattle.bus_laws.proofs.Bundling.{same_lists, position_at, positions_counted, all_at}
 

@@ -1,22 +1,10 @@
 -- What the bus answers to an entry looks only at the earlier entries of its object.
 use Rattle.std.proofs.Common.{◌≡◌, ℕ, true, ◌&&◌, not, refl, [], ◌∷◌, Some, None}
-use Rattle.std.proofs.lemmas.Bool.{and_from, and_parts}
+use Rattle.bus_semantics.specs.Common.{and_from, and_parts, list_all, same_number, Plan, runnable_of_event, History, Noted, Past, noted, note, runs, touched_by, touches, fits}
+use Rattle.bus_semantics.specs.Common.{follows_program, may_start, caller_has_asked, is_held_back, IsLegal, starts_its_own, is_proper, SameAnswers, IsSound}
 use Rattle.std.specs.Prelude.{filter}
-use Rattle.std.specs.List.{list_all}
-use Rattle.rte_value.specs.Values.{same_number}
-use Rattle.bus_semantics.specs.declared.script.Mapping.{Mapping}
-use Rattle.bus_semantics.specs.declared.entries.Actor.{Actor}
-use Rattle.bus_semantics.specs.declared.entries.Actor.TheVariants.{Env, Machine, Act}
-use Rattle.bus_semantics.specs.declared.entries.Deed.{Deed}
+use Rattle.bus_laws.specs.Common.{Mapping, Actor, Env, Machine, Act, Deed}
 use Rattle.bus_semantics.specs.declared.entries.Deed.TheVariants as deed
-use Rattle.bus_semantics.specs.Plan.{Plan, runnable_of_event}
-use Rattle.bus_semantics.specs.History.{History, Noted, Past, noted, note, runs}
-use Rattle.bus_semantics.specs.Objects.{touched_by, touches}
-use Rattle.bus_semantics.specs.Fitting.{fits}
-use Rattle.bus_semantics.specs.Actor.{follows_program, may_start, caller_has_asked, is_held_back}
-use Rattle.bus_semantics.specs.Legal.{IsLegal}
-use Rattle.bus_semantics.specs.Locality.{starts_its_own, is_proper, SameAnswers}
-use Rattle.bus_semantics.specs.Sound.{IsSound}
 use Rattle.bus_laws.proofs.LocalGroups.{unqueued_local, queued_local, unqueued_free, queued_free}
 use Rattle.bus_laws.proofs.LocalCalls.{calls_local, calls_free}
 use Rattle.bus_laws.proofs.LocalPhases.{modes_local, admission_local, modes_free, admission_free}

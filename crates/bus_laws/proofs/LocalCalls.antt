@@ -1,23 +1,11 @@
 -- What calls are answered looks only at the entries that touch the server.
 use Rattle.std.proofs.Common.{◌≡◌, ℕ, ◌+◌, Bool, true, false, ◌&&◌, ◌==◌, if◌then◌else◌, refl, sym, ◌∙◌, ap, subst, [], ◌∷◌, Option, Some, None}
-use Rattle.std.proofs.lemmas.Bool.{and_parts, eqb-true}
-use Rattle.std.proofs.lemmas.Option.{same_Some}
+use Rattle.bus_semantics.specs.Common.{and_parts, eqb-true, same_Some, list_all, ActKey, words_of, same_number, Plan, server_of, Past, made_by, first_server, server_object, object_of_kind}
+use Rattle.bus_semantics.specs.Common.{touched_by, touches, is_request_at, is_outstanding, returned_by, returned_to, serves, ask_code, answer_to, result_of, next_request, is_key_point}
+use Rattle.bus_semantics.specs.Common.{is_request, is_outcome, is_some_outcome, calls_allow, IsSound, is_proper}
 use Rattle.std.specs.Prelude.{filter}
-use Rattle.std.specs.List.{list_all}
-use Rattle.rte_value.specs.declared.kinds.ActKey.{ActKey}
-use Rattle.rte_value.specs.Values.{words_of, same_number}
-use Rattle.bus_semantics.specs.declared.script.Mapping.{Mapping}
-use Rattle.bus_semantics.specs.declared.entries.Actor.{Actor}
-use Rattle.bus_semantics.specs.declared.entries.Actor.TheVariants.{Env, Machine, Act}
-use Rattle.bus_semantics.specs.declared.entries.Deed.{Deed}
+use Rattle.bus_laws.specs.Common.{Mapping, Actor, Env, Machine, Act, Deed}
 use Rattle.bus_semantics.specs.declared.entries.Deed.TheVariants as deed
-use Rattle.bus_semantics.specs.Plan.{Plan, server_of}
-use Rattle.bus_semantics.specs.History.{Past, made_by}
-use Rattle.bus_semantics.specs.Objects.{first_server, server_object, object_of_kind, touched_by, touches}
-use Rattle.bus_semantics.specs.Calls.{is_request_at, is_outstanding, returned_by, returned_to, serves, ask_code, answer_to, result_of, next_request, is_key_point, is_request}
-use Rattle.bus_semantics.specs.Legal.{is_outcome, is_some_outcome, calls_allow}
-use Rattle.bus_semantics.specs.Sound.{IsSound}
-use Rattle.bus_semantics.specs.Locality.{is_proper}
 use Rattle.bus_laws.proofs.Thinning.{noting, if_same}
 use Rattle.bus_laws.proofs.LocalServers.{start_named, ask_thin, next_thin}
 use Rattle.bus_laws.proofs.LocalReturns.{all_false, answer_thin, result_thin, newer_returned}

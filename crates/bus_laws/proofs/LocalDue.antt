@@ -1,38 +1,14 @@
 -- When an event is due, and whether an area is held, look only at the entries that touch the object.
 use Rattle.std.proofs.Common.{◌≡◌, ℕ, suc, ◌+◌, ◌%◌, Bool, true, false, ◌&&◌, ◌||◌, not, ◌==◌, if◌then◌else◌, refl, sym, ◌∙◌, ap, subst, [], ◌∷◌, length, Option, Some, None, is_some}
-use Rattle.std.proofs.lemmas.Bool.{and_from, and_parts, eqb-true}
-use Rattle.std.proofs.lemmas.Option.{same_Some}
+use Rattle.bus_semantics.specs.Common.{and_from, and_parts, eqb-true, same_Some, list_all, list_any, slice_get, option_map_or, ActKey, same_number, Plan, server_of, kind_of, instance_of}
+use Rattle.bus_semantics.specs.Common.{home_of, wanted_by, Past, Noted, count, first_server, first_area, first_machine, clock, server_object, object_of_kind, served_by, touched_by, touches}
+use Rattle.bus_semantics.specs.Common.{stored_in, accepts_next, key_fits, serves_directly, event_fits, wish_fits, answer_fits, fits, enters, leaves, is_held, phase_of, is_phase}
+use Rattle.bus_semantics.specs.Common.{is_stable_phase, owes_moment, is_start_by, has_unstarted, follows_last, is_tick, ticks, ticks_period, brings_data, returns_to, phase_owes}
+use Rattle.bus_semantics.specs.Common.{ends_transition, is_return_event_of, is_start_by_return_of, never_started, switch_due, counts_for, key_point_of, is_due_kind, areas_allow, due_allows}
+use Rattle.bus_semantics.specs.Common.{IsSound, starts_its_own, is_proper}
 use Rattle.std.specs.Prelude.{filter, nat_lt, option_and_then}
-use Rattle.std.specs.List.{list_all, list_any, slice_get}
-use Rattle.std.specs.Option.{option_map_or}
-use Rattle.rte_value.specs.declared.kinds.ActKey.{ActKey}
-use Rattle.rte_value.specs.Values.{same_number}
-use Rattle.bus_semantics.specs.declared.plan.ElemPlan.{ElemPlan}
-use Rattle.bus_semantics.specs.declared.plan.EventKind.{EventKind}
-use Rattle.bus_semantics.specs.declared.plan.EventKind.TheVariants.{Timing, Init, DataReceived, Invoked, Returns, ModeSwitch, Ack}
-use Rattle.bus_semantics.specs.declared.plan.Moment.{Moment}
-use Rattle.bus_semantics.specs.declared.script.Mapping.{Mapping}
-use Rattle.bus_semantics.specs.declared.entries.Actor.{Actor}
-use Rattle.bus_semantics.specs.declared.entries.Actor.TheVariants.{Env, Machine, Act}
-use Rattle.bus_semantics.specs.declared.entries.Deed.{Deed}
+use Rattle.bus_laws.specs.Common.{ElemPlan, EventKind, Timing, Init, DataReceived, Invoked, Returns, ModeSwitch, Ack, Moment, Mapping, Actor, Env, Machine, Act, Deed}
 use Rattle.bus_semantics.specs.declared.entries.Deed.TheVariants as deed
-use Rattle.bus_semantics.specs.Plan.{Plan, server_of, kind_of, instance_of}
-use Rattle.bus_semantics.specs.Bundles.{home_of}
-use Rattle.bus_semantics.specs.Wanted.{wanted_by}
-use Rattle.bus_semantics.specs.History.{Past, Noted, count}
-use Rattle.bus_semantics.specs.Objects.{first_server, first_area, first_machine, clock, server_object, object_of_kind, served_by, touched_by, touches}
-use Rattle.bus_semantics.specs.Unqueued.{stored_in}
-use Rattle.bus_semantics.specs.Queued.{accepts_next}
-use Rattle.bus_semantics.specs.Owners.{key_fits, serves_directly, event_fits}
-use Rattle.bus_semantics.specs.Fitting.{wish_fits, answer_fits, fits}
-use Rattle.bus_semantics.specs.Areas.{enters, leaves, is_held}
-use Rattle.bus_semantics.specs.Modes.{phase_of, is_phase, is_stable_phase}
-use Rattle.bus_semantics.specs.Owed.{owes_moment, is_start_by}
-use Rattle.bus_semantics.specs.Calls.{has_unstarted}
-use Rattle.bus_semantics.specs.Due.{follows_last, is_tick, ticks, ticks_period, brings_data, returns_to, phase_owes, ends_transition, is_return_event_of, is_start_by_return_of, never_started, switch_due, counts_for, key_point_of, is_due_kind}
-use Rattle.bus_semantics.specs.Legal.{areas_allow, due_allows}
-use Rattle.bus_semantics.specs.Sound.{IsSound}
-use Rattle.bus_semantics.specs.Locality.{starts_its_own, is_proper}
 use Rattle.bus_laws.proofs.Thinning.{noting, clash, differs, same_test, option_same, option_test, count_thin, any_thin, follows_thin}
 use Rattle.bus_laws.proofs.OneEvent.{invoked_serves}
 use Rattle.bus_laws.proofs.Bundling.{no_bundle}

@@ -1,27 +1,14 @@
 -- What is kept of data looks only at the entries that touch the object of the group.
-use Rattle.std.proofs.Common.{◌≡◌, ℕ, ◌/◌, ◌%◌, ℤ, Bool, true, false, ◌&&◌, ◌||◌, not, ◌==◌, if◌then◌else◌, refl, sym, ◌∙◌, ap, subst, List, [], ◌∷◌, ◌++◌, length, take, drop, Option, Some, None, is_some}
-use Rattle.std.proofs.lemmas.Bool.{and_parts, or_left, or_right, eqb-true}
+use Rattle.std.proofs.Common.{◌≡◌, ℕ, ◌/◌, ◌%◌, ℤ, Bool, true, false, ◌&&◌, ◌||◌, not, ◌==◌, if◌then◌else◌, refl, sym, ◌∙◌, ap, subst, List, [], ◌∷◌, ◌++◌, length, take, drop, Option, Some}
+use Rattle.std.proofs.Common.{None, is_some}
+use Rattle.bus_semantics.specs.Common.{and_parts, or_left, or_right, eqb-true, list_all, list_any, slice_get, option_or, option_map_or, words_of, same_number, same_words, Plan, group_of}
+use Rattle.bus_semantics.specs.Common.{positions, elems_of, words_at, marked, split, home_of, bundle_of, bundle_of_list, Past, Noted, newest, touched_by, touches, is_in_group, last_in}
+use Rattle.bus_semantics.specs.Common.{listed_in, moment_of, stored_in, last_stored, value_at, validity, is_invalid, port_read_code, elem_read_code, read_code, update, is_updated, sent_in}
+use Rattle.bus_semantics.specs.Common.{is_receive_of, takes_at, taken_at, with_sent, is_room, accepted_at, has_room_at, accepts_next, discards_next, has_lost, sent_to, places_at}
+use Rattle.bus_semantics.specs.Common.{is_receiver_in, is_full_in, send_code, received_at, same_bool, is_outcome, unqueued_allows, queued_allows, is_proper, IsSound}
 use Rattle.std.specs.Prelude.{filter, option_and_then, option_map, unwrap_or}
-use Rattle.std.specs.List.{list_all, list_any, slice_get}
-use Rattle.std.specs.Option.{option_or, option_map_or}
-use Rattle.rte_value.specs.Values.{words_of, same_number, same_words}
-use Rattle.bus_semantics.specs.declared.plan.ElemPlan.{ElemPlan}
-use Rattle.bus_semantics.specs.declared.plan.ElemKind.{ElemKind}
-use Rattle.bus_semantics.specs.declared.plan.ElemKind.TheVariants.{Unqueued, Queued, Variable}
-use Rattle.bus_semantics.specs.declared.script.Mapping.{Mapping}
-use Rattle.bus_semantics.specs.declared.entries.Actor.{Actor}
-use Rattle.bus_semantics.specs.declared.entries.Deed.{Deed}
+use Rattle.bus_laws.specs.Common.{ElemPlan, ElemKind, Unqueued, Queued, Variable, Mapping, Actor, Deed}
 use Rattle.bus_semantics.specs.declared.entries.Deed.TheVariants as deed
-use Rattle.bus_semantics.specs.Plan.{Plan, group_of, positions}
-use Rattle.bus_semantics.specs.Lists.{elems_of, words_at, marked, split}
-use Rattle.bus_semantics.specs.Bundles.{home_of, bundle_of, bundle_of_list}
-use Rattle.bus_semantics.specs.History.{Past, Noted, newest}
-use Rattle.bus_semantics.specs.Objects.{touched_by, touches}
-use Rattle.bus_semantics.specs.Unqueued.{is_in_group, last_in, listed_in, moment_of, stored_in, last_stored, value_at, validity, is_invalid, port_read_code, elem_read_code, read_code, update, is_updated}
-use Rattle.bus_semantics.specs.Queued.{sent_in, is_receive_of, takes_at, taken_at, with_sent, is_room, accepted_at, has_room_at, accepts_next, discards_next, has_lost, sent_to, places_at, is_receiver_in, is_full_in, send_code, received_at}
-use Rattle.bus_semantics.specs.Legal.{same_bool, is_outcome, unqueued_allows, queued_allows}
-use Rattle.bus_semantics.specs.Locality.{is_proper}
-use Rattle.bus_semantics.specs.Sound.{IsSound}
 use Rattle.bus_laws.proofs.Thinning.{noting, clash, differs, none_if, same_test, option_same, option_test, thin, newest_thin, count_thin}
 use Rattle.bus_laws.proofs.Bundling.{no_bundle}
 use Rattle.bus_laws.proofs.OneBundle.{has, list_home, list_bundled}

@@ -1,24 +1,13 @@
 -- What is kept of modes looks only at the entries that touch the machine.
 use Rattle.std.proofs.Common.{◌≡◌, ℕ, ◌+◌, Bool, true, false, ◌&&◌, ◌||◌, ◌==◌, if◌then◌else◌, refl, sym, ◌∙◌, ap, ◌∷◌, length, Option, Some, None, unwrap_or}
-use Rattle.std.proofs.lemmas.Bool.{eqb-true}
+use Rattle.bus_semantics.specs.Common.{eqb-true, list_all, slice_get, same_number, Plan, look, kind_of, Past, Noted, first_machine, machine_object, object_of_kind, disabler_of}
+use Rattle.bus_semantics.specs.Common.{machine_of_event, touches, phase_of, stage_of, initial_of, closed_mode, is_close, is_stable_phase, is_phase, next_of, settled_of, is_stable}
+use Rattle.bus_semantics.specs.Common.{switched_to, accepted_switches, closes_of, switch_code, mode_of, stage_owes, owes_moment, is_start_by, is_end_by, started_in_phase, is_done}
+use Rattle.bus_semantics.specs.Common.{admitted_runs, first_unbegun, is_proper}
 use Rattle.std.specs.Prelude.{filter}
-use Rattle.std.specs.List.{list_all, slice_get}
 use Rattle.rte_value.specs.declared.kinds.Step.TheVariants as step
-use Rattle.rte_value.specs.Values.{same_number}
-use Rattle.bus_semantics.specs.declared.plan.MachinePlan.{MachinePlan}
-use Rattle.bus_semantics.specs.declared.plan.Moment.{Moment}
-use Rattle.bus_semantics.specs.declared.entries.Actor.{Actor}
-use Rattle.bus_semantics.specs.declared.entries.Actor.TheVariants.{Env, Machine, Act}
-use Rattle.bus_semantics.specs.declared.entries.Deed.{Deed}
+use Rattle.bus_laws.specs.Common.{MachinePlan, Moment, Actor, Env, Machine, Act, Deed}
 use Rattle.bus_semantics.specs.declared.entries.Deed.TheVariants as deed
-use Rattle.bus_semantics.specs.Plan.{Plan, look, kind_of}
-use Rattle.bus_semantics.specs.History.{Past, Noted}
-use Rattle.bus_semantics.specs.Objects.{first_machine, machine_object, object_of_kind, disabler_of, machine_of_event, touches}
-use Rattle.bus_semantics.specs.Modes.{phase_of, stage_of, initial_of, closed_mode, is_close, is_stable_phase, is_phase, next_of, settled_of, is_stable, switched_to, accepted_switches, closes_of, switch_code, mode_of}
-use Rattle.bus_semantics.specs.Owed.{stage_owes, owes_moment, is_start_by, is_end_by, started_in_phase, is_done}
-use Rattle.bus_semantics.specs.Admission.{admitted_runs}
-use Rattle.bus_semantics.specs.Phases.{first_unbegun}
-use Rattle.bus_semantics.specs.Locality.{is_proper}
 use Rattle.bus_laws.proofs.Thinning.{noting, differs, none_if, if_same, option_test, thin, newest_thin, count_thin}
 
 module _ (p : Plan) (m : ℕ) where

@@ -1,32 +1,13 @@
 -- Which phase may come, what switches and modes are answered, and who is admitted look only at the entries that touch the machine.
 use Rattle.std.proofs.Common.{◌≡◌, ℕ, ◌+◌, Bool, true, false, ◌&&◌, ◌||◌, not, ◌==◌, if◌then◌else◌, refl, sym, ◌∙◌, ap, subst, arith, Option, Some, None}
-use Rattle.std.proofs.lemmas.Bool.{eqb-true}
-use Rattle.std.proofs.lemmas.Option.{same_Some}
+use Rattle.bus_semantics.specs.Common.{eqb-true, same_Some, list_all, list_any, slice_get, option_map_or, Step, same_number, Plan, kind_of, disabling_of, machine_of_port, Past}
+use Rattle.bus_semantics.specs.Common.{first_machine, machine_object, object_of_kind, disabler_of, owing, machine_of_event, touched_by, touches, stage_of, waits_of, next_of, switch_code}
+use Rattle.bus_semantics.specs.Common.{mode_of, mode_at_port, owes_moment, owes, is_done, all_done, disables, admitted_runs, mode_disables, none_runs_disabled, is_disabled_by, is_disabled}
+use Rattle.bus_semantics.specs.Common.{phase_after, same_bool, modes_allow, admission_allows, IsSound, is_proper}
 use Rattle.std.specs.Prelude.{filter, option_map}
-use Rattle.std.specs.List.{list_all, list_any, slice_get}
-use Rattle.std.specs.Option.{option_map_or}
-use Rattle.rte_value.specs.declared.kinds.Step.{Step}
 use Rattle.rte_value.specs.declared.kinds.Step.TheVariants as step
-use Rattle.rte_value.specs.Values.{same_number}
-use Rattle.bus_semantics.specs.declared.plan.EventPlan.{EventPlan}
-use Rattle.bus_semantics.specs.declared.plan.Disabling.{Disabling}
-use Rattle.bus_semantics.specs.declared.plan.EventKind.{EventKind}
-use Rattle.bus_semantics.specs.declared.plan.EventKind.TheVariants.{ModeSwitch}
-use Rattle.bus_semantics.specs.declared.script.Mapping.{Mapping}
-use Rattle.bus_semantics.specs.declared.entries.Actor.{Actor}
-use Rattle.bus_semantics.specs.declared.entries.Actor.TheVariants.{Env, Machine, Act}
-use Rattle.bus_semantics.specs.declared.entries.Deed.{Deed}
+use Rattle.bus_laws.specs.Common.{EventPlan, Disabling, EventKind, ModeSwitch, Mapping, Actor, Env, Machine, Act, Deed}
 use Rattle.bus_semantics.specs.declared.entries.Deed.TheVariants as deed
-use Rattle.bus_semantics.specs.Plan.{Plan, kind_of, disabling_of, machine_of_port}
-use Rattle.bus_semantics.specs.History.{Past}
-use Rattle.bus_semantics.specs.Objects.{first_machine, machine_object, object_of_kind, disabler_of, owing, machine_of_event, touched_by, touches}
-use Rattle.bus_semantics.specs.Modes.{stage_of, waits_of, next_of, switch_code, mode_of, mode_at_port}
-use Rattle.bus_semantics.specs.Owed.{owes_moment, owes, is_done, all_done}
-use Rattle.bus_semantics.specs.Admission.{disables, admitted_runs, mode_disables, none_runs_disabled, is_disabled_by, is_disabled}
-use Rattle.bus_semantics.specs.Phases.{phase_after}
-use Rattle.bus_semantics.specs.Legal.{same_bool, modes_allow, admission_allows}
-use Rattle.bus_semantics.specs.Sound.{IsSound}
-use Rattle.bus_semantics.specs.Locality.{is_proper}
 use Rattle.bus_laws.proofs.Thinning.{noting, every_same}
 use Rattle.bus_laws.proofs.OneEvent.{kind_at, none_disables}
 use Rattle.bus_laws.proofs.LocalMachines.{stage_thin, next_thin, settled_thin, code_thin, stable_thin, mode_thin, unbegun_thin, owes_thin, admitted_thin, done_thin}

@@ -1,25 +1,11 @@
 -- What was returned looks only at the entries that touch the server; and what calls are answered.
 use Rattle.std.proofs.Common.{◌≡◌, ℕ, ◌+◌, ℤ, Bool, true, false, if◌then◌else◌, refl, sym, ◌∙◌, ap, subst, List, [], ◌∷◌, Option, Some, None}
-use Rattle.std.proofs.lemmas.Bool.{and_parts, eqb-true}
-use Rattle.std.proofs.lemmas.Option.{same_Some}
+use Rattle.bus_semantics.specs.Common.{and_parts, eqb-true, same_Some, list_all, option_or, ActKey, words_of, same_number, same_key, same_key-Decides, Plan, server_of, kind_of, Past, Noted}
+use Rattle.bus_semantics.specs.Common.{made_by, first_server, server_object, object_of_kind, served_by, touches, is_request_at, serves, returned_by, returned_to, answer_to, result_of}
+use Rattle.bus_semantics.specs.Common.{IsSound, is_proper}
 use Rattle.std.specs.Prelude.{filter}
-use Rattle.std.specs.List.{list_all}
-use Rattle.std.specs.Option.{option_or}
-use Rattle.rte_value.specs.declared.kinds.ActKey.{ActKey}
-use Rattle.rte_value.specs.Values.{words_of, same_number, same_key}
-use Rattle.rte_value.specs.EqualKeys.{same_key-Decides}
-use Rattle.bus_semantics.specs.declared.plan.EventKind.TheVariants.{Invoked}
-use Rattle.bus_semantics.specs.declared.script.Mapping.{Mapping}
-use Rattle.bus_semantics.specs.declared.entries.Actor.{Actor}
-use Rattle.bus_semantics.specs.declared.entries.Actor.TheVariants.{Env, Machine, Act}
-use Rattle.bus_semantics.specs.declared.entries.Deed.{Deed}
+use Rattle.bus_laws.specs.Common.{Invoked, Mapping, Actor, Env, Machine, Act, Deed}
 use Rattle.bus_semantics.specs.declared.entries.Deed.TheVariants as deed
-use Rattle.bus_semantics.specs.Plan.{Plan, server_of, kind_of}
-use Rattle.bus_semantics.specs.History.{Past, Noted, made_by}
-use Rattle.bus_semantics.specs.Objects.{first_server, server_object, object_of_kind, served_by, touches}
-use Rattle.bus_semantics.specs.Calls.{is_request_at, serves, returned_by, returned_to, answer_to, result_of}
-use Rattle.bus_semantics.specs.Sound.{IsSound}
-use Rattle.bus_semantics.specs.Locality.{is_proper}
 use Rattle.bus_laws.proofs.Thinning.{noting, differs, if_false, if_same, option_same, option_test, thin, fine_thin}
 use Rattle.bus_laws.proofs.OneEvent.{invoked_serves, serves_invoked}
 use Rattle.bus_laws.proofs.LocalServers.{start_named, start_owned, by_invoked, request_quiet, outstanding_thin}

@@ -1,24 +1,12 @@
 -- What is kept of calls looks only at the entries that touch the server.
 use Rattle.std.proofs.Common.{◌≡◌, ℕ, zero, suc, ◌+◌, ℤ, Bool, true, false, ◌&&◌, ◌||◌, not, ◌==◌, if◌then◌else◌, refl, sym, ◌∙◌, ap, subst, List, [], ◌∷◌, ◌++◌, length, Option, Some, None}
 use Rattle.std.specs.Prelude.{filter, nat_lt, nat_le}
-use Rattle.std.specs.List.{list_all, slice_get}
-use Rattle.std.proofs.lemmas.Bool.{and_parts, eqb-true, false≢true}
-use Rattle.std.proofs.lemmas.Option.{same_Some}
-use Rattle.rte_value.specs.declared.kinds.ActKey.{ActKey}
-use Rattle.rte_value.specs.Values.{words_of, same_number}
-use Rattle.bus_semantics.specs.declared.plan.EventKind.{EventKind}
-use Rattle.bus_semantics.specs.declared.plan.EventKind.TheVariants.{Invoked}
-use Rattle.bus_semantics.specs.declared.entries.Actor.{Actor}
-use Rattle.bus_semantics.specs.declared.entries.Actor.TheVariants.{Act}
-use Rattle.bus_semantics.specs.declared.entries.Deed.{Deed}
+use Rattle.bus_semantics.specs.Common.{list_all, slice_get, and_parts, eqb-true, false≢true, same_Some, ActKey, words_of, same_number, Plan, server_of, queue_of, kind_of, runnable_of_event}
+use Rattle.bus_semantics.specs.Common.{wanted_by, Past, Noted, needs_event, first_server, server_object, object_of_kind, touches, start_fits, answer_fits, activation_fits, wish_fits, fits}
+use Rattle.bus_semantics.specs.Common.{is_request_at, takes_reply_at, is_outstanding, counts_with, requests_of, is_start_of, starts_of, is_queue_full, ask_code, next_request, has_unstarted}
+use Rattle.bus_semantics.specs.Common.{starts_its_own, is_proper}
+use Rattle.bus_laws.specs.Common.{EventKind, Invoked, Actor, Act, Deed}
 use Rattle.bus_semantics.specs.declared.entries.Deed.TheVariants as deed
-use Rattle.bus_semantics.specs.Plan.{Plan, server_of, queue_of, kind_of, runnable_of_event}
-use Rattle.bus_semantics.specs.Wanted.{wanted_by}
-use Rattle.bus_semantics.specs.History.{Past, Noted, needs_event}
-use Rattle.bus_semantics.specs.Objects.{first_server, server_object, object_of_kind, touches}
-use Rattle.bus_semantics.specs.Fitting.{start_fits, answer_fits, activation_fits, wish_fits, fits}
-use Rattle.bus_semantics.specs.Calls.{is_request_at, takes_reply_at, is_outstanding, counts_with, requests_of, is_start_of, starts_of, is_queue_full, ask_code, next_request, has_unstarted}
-use Rattle.bus_semantics.specs.Locality.{starts_its_own, is_proper}
 use Rattle.bus_laws.proofs.Thinning.{noting, differs, if_false, option_same, option_test, thin, count_thin}
 
 -- ---- proper starts

@@ -1,24 +1,15 @@
 -- What the objects of a sound plan need of its coherent lists: the elements of a list are unqueued, and a group that no list names is a
 -- bundle by itself, which no list touches.
-use Rattle.std.proofs.Common.{◌≡◌, ◌⊎◌, ◌<◌, ◌≤◌, ◌/◌, ◌%◌, ℕ, ℤ, take, drop, zero, suc, Bool, true, false, ◌||◌, ◌==◌, if◌then◌else◌, refl, sym, ◌∙◌, ap, subst, arith, inl, inr, List, [], ◌∷◌, ◌++◌, map, length, get_or, Option, Some, None}
+use Rattle.std.proofs.Common.{◌≡◌, ◌⊎◌, ◌<◌, ◌≤◌, ◌/◌, ◌%◌, ℕ, ℤ, take, drop, zero, suc, Bool, true, false, ◌||◌, ◌==◌, if◌then◌else◌, refl, sym, ◌∙◌, ap, subst, arith, inl, inr, List, []}
+use Rattle.std.proofs.Common.{◌∷◌, ◌++◌, map, length, get_or, Option, Some, None}
 use mathlib.Core.Logic.{dite}
 use native.Mathlib.Decide.{ℕ_discrete}
 use Rattle.std.specs.Prelude.{flat_map, option_and_then, option_map, option_to_list}
-use Rattle.std.specs.List.{list_any, slice_get}
-use Rattle.std.specs.Option.{option_or, option_map_or}
-use Rattle.std.proofs.lemmas.Bool.{or_left, or_right, false≢true, eqb-true, cases_lt}
+use Rattle.bus_semantics.specs.Common.{list_any, slice_get, option_or, option_map_or, or_left, or_right, false≢true, eqb-true, cases_lt, same_Some, slice_get_within, slice_get-get_or}
+use Rattle.bus_semantics.specs.Common.{slice_get-map, same_number, Plan, look, positions, group_of, elems_of, words_at, marked, split, is_in_group, last_in, listed_in, home_of, bundle_of}
+use Rattle.bus_semantics.specs.Common.{bundle_of_list, groups_at, least, together, leaders_on, is_unqueued, groups_listed, IsSound}
 use Rattle.std.proofs.lemmas.List.{get_or_past}
-use Rattle.std.proofs.lemmas.Option.{same_Some, slice_get_within, slice_get-get_or, slice_get-map}
-use Rattle.rte_value.specs.Values.{same_number}
-use Rattle.bus_semantics.specs.declared.plan.CoherentList.{CoherentList}
-use Rattle.bus_semantics.specs.declared.script.Mapping.{Mapping}
-use Rattle.bus_semantics.specs.Plan.{Plan, look, positions, group_of}
-use Rattle.bus_semantics.specs.Lists.{elems_of, words_at, marked, split}
-use Rattle.bus_semantics.specs.Unqueued.{is_in_group, last_in, listed_in}
-use Rattle.bus_semantics.specs.Bundles.{home_of, bundle_of, bundle_of_list, groups_at, least, together, leaders_on}
-use Rattle.bus_semantics.specs.Owners.{is_unqueued}
-use Rattle.bus_semantics.specs.SoundLists.{groups_listed}
-use Rattle.bus_semantics.specs.Sound.{IsSound}
+use Rattle.bus_laws.specs.Common.{CoherentList, Mapping}
 use Rattle.bus_laws.proofs.Thinning.{same_test, option_same}
 use Rattle.bus_laws.proofs.Bundling.{Begins, some_of, position_at, positions_counted, homes_counted, there_home, home_leads, leaders, one_passes}
 use Rattle.bus_laws.proofs.OneBundle.{has, has_group, least_is, theirs, relabel, leaders_counted, list_home, listed_plain}

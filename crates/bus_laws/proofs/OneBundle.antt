@@ -1,29 +1,15 @@
 -- The elements of a coherent list of a sound plan are elements of the plan, and all of one bundle.
-use Rattle.std.proofs.Common.{◌≡◌, ◌⊎◌, ◌<◌, ◌≤◌, ℕ, zero, suc, Bool, true, false, ◌&&◌, ◌||◌, not, ◌==◌, if◌then◌else◌, refl, sym, ◌∙◌, ap, subst, arith, inl, inr, List, [], ◌∷◌, ◌++◌, map, length, get_or, Option, Some, None, is_some}
+use Rattle.std.proofs.Common.{◌≡◌, ◌⊎◌, ◌<◌, ◌≤◌, ℕ, zero, suc, Bool, true, false, ◌&&◌, ◌||◌, not, ◌==◌, if◌then◌else◌, refl, sym, ◌∙◌, ap, subst, arith, inl, inr, List, [], ◌∷◌, ◌++◌, map}
+use Rattle.std.proofs.Common.{length, get_or, Option, Some, None, is_some}
 use native.Mathlib.Nat.{min-le_left, min-le_right, min-eq_left, min-eq_right}
 use Rattle.std.specs.Prelude.{flat_map, option_and_then, option_map, option_to_list, min, nat_le}
-use Rattle.std.specs.List.{list_all, list_any, slice_get}
-use Rattle.std.specs.Option.{option_map_or}
-use Rattle.std.proofs.lemmas.Bool.{and_parts, or_left, or_right, false≢true, eqb-true, eq-eqb, cases_lt}
-use Rattle.std.proofs.lemmas.Option.{same_Some, slice_get_within, slice_get-get_or, slice_get-map}
-use Rattle.std.proofs.lemmas.List.{length-map}
-use Rattle.rte_value.specs.Values.{same_number}
-use Rattle.runnable_lang.specs.declared.program.AccessKind.{AccessKind}
+use Rattle.bus_semantics.specs.Common.{list_all, list_any, slice_get, option_map_or, and_parts, or_left, or_right, false≢true, eqb-true, eq-eqb, cases_lt, same_Some, slice_get_within}
+use Rattle.bus_semantics.specs.Common.{slice_get-get_or, slice_get-map, length-map, same_number, AccessKind, AccessSig, Plan, Runnable, look, every_from, positions, group_of, same_kind}
+use Rattle.bus_semantics.specs.Common.{elems_of, words_of_all, home_of, bundle_of, bundle_of_list, least, together, leaders_on, elem_fits, is_unqueued, is_in, is_distinct, same_numbers}
+use Rattle.bus_semantics.specs.Common.{access_sound, each_access, runnable_sound, accesses_elem, list_kind, list_sound, groups_listed, bundles_fit, IsSound}
 use Rattle.runnable_lang.specs.declared.program.AccessKind.TheVariants as kind
-use Rattle.runnable_lang.specs.declared.program.AccessSig.{AccessSig}
-use Rattle.bus_semantics.specs.declared.plan.CoherentList.{CoherentList}
-use Rattle.bus_semantics.specs.declared.plan.ElemPlan.{ElemPlan}
-use Rattle.bus_semantics.specs.declared.script.Mapping.{Mapping}
-use Rattle.bus_semantics.specs.Plan.{Plan, Runnable, look, every_from, positions, group_of}
-use Rattle.bus_semantics.specs.State.{same_kind}
-use Rattle.bus_semantics.specs.Lists.{elems_of, words_of_all}
-use Rattle.bus_semantics.specs.Bundles.{home_of, bundle_of, bundle_of_list, least, together, leaders_on}
-use Rattle.bus_semantics.specs.Owners.{elem_fits, is_unqueued}
-use Rattle.bus_semantics.specs.SoundPlan.{is_in, is_distinct, same_numbers}
-use Rattle.bus_semantics.specs.SoundAccesses.{access_sound, each_access, takes_words}
-use Rattle.bus_semantics.specs.SoundPrograms.{runnable_sound}
-use Rattle.bus_semantics.specs.SoundLists.{accesses_elem, list_kind, list_sound, groups_listed, bundles_fit}
-use Rattle.bus_semantics.specs.Sound.{IsSound}
+use Rattle.bus_laws.specs.Common.{CoherentList, ElemPlan, Mapping}
+use Rattle.bus_semantics.specs.SoundAccesses.{takes_words}
 use Rattle.bus_laws.proofs.Thinning.{same_test, every_at, found_where}
 use Rattle.bus_laws.proofs.Bundling.{some_of, same_lists, position_at, positions_counted, group_below, leaders, homes_counted, there_home, home_there, begun_home, home_leads}
 

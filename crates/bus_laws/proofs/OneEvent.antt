@@ -1,22 +1,9 @@
 -- In a sound plan a server's runnable serves it and has its one event, and no mode switch event is disabled.
 use Rattle.std.proofs.Common.{◌≡◌, ℕ, Bool, true, false, ◌&&◌, ◌||◌, not, ◌==◌, refl, sym, ◌∙◌, ap, subst, arith, Option, Some, None, length}
-use Rattle.std.proofs.lemmas.Bool.{and_parts, eq-eqb, eqb-true}
-use Rattle.std.proofs.lemmas.Option.{same_Some}
+use Rattle.bus_semantics.specs.Common.{and_parts, eq-eqb, eqb-true, same_Some, slice_get, option_map_or, same_number, Plan, Runnable, look, every_from, kind_of, disabling_of}
+use Rattle.bus_semantics.specs.Common.{runnable_of_event, instance_of, server_sound, kind_sound, disabling_sound, is_invoked, event_sound, server_served, serves_back, IsSound}
 use Rattle.std.specs.Prelude.{nat_lt, nat_le}
-use Rattle.std.specs.List.{slice_get}
-use Rattle.std.specs.Option.{option_map_or}
-use Rattle.rte_value.specs.Values.{same_number}
-use Rattle.bus_semantics.specs.declared.plan.ServerPlan.{ServerPlan}
-use Rattle.bus_semantics.specs.declared.plan.EventPlan.{EventPlan}
-use Rattle.bus_semantics.specs.declared.plan.Disabling.{Disabling}
-use Rattle.bus_semantics.specs.declared.plan.EventKind.{EventKind}
-use Rattle.bus_semantics.specs.declared.plan.EventKind.TheVariants.{Init, Invoked, ModeSwitch}
-use Rattle.bus_semantics.specs.declared.plan.Moment.{Moment}
-use Rattle.bus_semantics.specs.declared.script.Mapping.{Mapping}
-use Rattle.bus_semantics.specs.Plan.{Plan, Runnable, look, every_from, kind_of, disabling_of, runnable_of_event, instance_of}
-use Rattle.bus_semantics.specs.SoundElements.{server_sound}
-use Rattle.bus_semantics.specs.SoundEvents.{kind_sound, disabling_sound, is_invoked, event_sound, server_served, serves_back}
-use Rattle.bus_semantics.specs.Sound.{IsSound}
+use Rattle.bus_laws.specs.Common.{ServerPlan, EventPlan, Disabling, EventKind, Init, Invoked, ModeSwitch, Moment, Mapping}
 use Rattle.bus_laws.proofs.Thinning.{clash, option_same, every_at, Found, found_where, sought_where}
 
 abbrev pub server_of_runnable : Plan → ℕ → Option ℕ

@@ -1,22 +1,10 @@
 -- The values that a queue accepted are those of the sends that found room.
-use Rattle.std.proofs.Common.{◌≡◌, ◌↔◌, ◌<◌, ◌≤◌, ◌⊎◌, inl, inr, ℕ, zero, suc, ◌+◌, ℤ, List, [], ◌∷◌, ◌++◌, length, Bool, true, false, ◌||◌, ◌==◌, if◌then◌else◌, Option, Some, None, refl, sym, ◌∙◌, ap, subst, arith}
-use Rattle.std.specs.List.{slice_get}
-use Rattle.std.specs.Option.{option_map_or}
-use Rattle.std.proofs.lemmas.Bool.{and_parts, eqb-true, false≢true}
-use Rattle.std.proofs.lemmas.Bool.Decides.{nat_tests}
-use Rattle.std.proofs.lemmas.Option.{same_Some}
-use Rattle.std.proofs.lemmas.List.{length-append}
-use Rattle.rte_value.specs.declared.value.Value.{Value}
-use Rattle.rte_value.specs.Values.{words_of}
-use Rattle.rte_value.specs.EqualValues.{same_words-Decides}
-use Rattle.bus_semantics.specs.declared.plan.ElemPlan.{ElemPlan}
-use Rattle.bus_semantics.specs.declared.entries.Deed.{Deed}
+use Rattle.std.proofs.Common.{◌≡◌, ◌↔◌, ◌<◌, ◌≤◌, ◌⊎◌, inl, inr, ℕ, zero, suc, ◌+◌, ℤ, List, [], ◌∷◌, ◌++◌, length, Bool, true, false, ◌||◌, ◌==◌, if◌then◌else◌, Option, Some, None, refl}
+use Rattle.std.proofs.Common.{sym, ◌∙◌, ap, subst, arith}
+use Rattle.bus_semantics.specs.Common.{slice_get, option_map_or, and_parts, eqb-true, false≢true, nat_tests, same_Some, length-append, Value, words_of, same_words-Decides, Plan, Noted, Past}
+use Rattle.bus_semantics.specs.Common.{sent_in, sent_to, takes_at, taken_at, with_sent, is_room, places_at, accepted_at, has_room_at, has_lost, received_at, is_outcome}
+use Rattle.bus_laws.specs.Common.{ElemPlan, Deed, IsAccepted}
 use Rattle.bus_semantics.specs.declared.entries.Deed.TheVariants as deed
-use Rattle.bus_semantics.specs.Plan.{Plan}
-use Rattle.bus_semantics.specs.History.{Noted, Past}
-use Rattle.bus_semantics.specs.Queued.{sent_in, sent_to, takes_at, taken_at, with_sent, is_room, places_at, accepted_at, has_room_at, has_lost, received_at}
-use Rattle.bus_semantics.specs.Legal.{is_outcome}
-use Rattle.bus_laws.specs.Happened.{IsAccepted}
 
 -- ---- a list with one more at its end
 

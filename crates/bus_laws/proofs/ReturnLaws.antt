@@ -1,27 +1,13 @@
 -- What the recursions on calls compute of a point is the return of the activation that serves its request, as `IsAnswered` says it.
 use Rattle.std.proofs.Common.{◌≡◌, ◌<◌, ℕ, ℤ, Bool, true, false, ◌&&◌, ◌||◌, not, if◌then◌else◌, refl, sym, ◌∙◌, ap, subst, arith, List, [], ◌∷◌, ◌++◌, append_assoc, Option, Some, None, is_some}
 use Rattle.std.specs.Prelude.{unwrap_or}
-use Rattle.std.specs.List.{list_all, list_any}
-use Rattle.std.specs.Option.{option_or}
-use Rattle.std.proofs.lemmas.Bool.{and_parts, and_right, or_parts, or_from, or_left, false≢true, ltb-true}
-use Rattle.std.proofs.lemmas.Option.{none-some, some_pair_parts}
-use Rattle.std.proofs.lemmas.List.Folds.{list_all-append, list_any-append}
-use Rattle.rte_value.specs.declared.kinds.ActKey.{ActKey}
-use Rattle.rte_value.specs.declared.value.Value.{Value}
-use Rattle.rte_value.specs.Values.{words_of}
-use Rattle.bus_semantics.specs.declared.entries.Actor.{Actor}
-use Rattle.bus_semantics.specs.declared.entries.Actor.TheVariants.{Act}
-use Rattle.bus_semantics.specs.declared.entries.Deed.{Deed}
+use Rattle.bus_semantics.specs.Common.{list_all, list_any, option_or, and_parts, and_right, or_parts, or_from, or_left, false≢true, ltb-true, none-some, list_all-append, list_any-append}
+use Rattle.bus_semantics.specs.Common.{ActKey, Value, words_of, Plan, server_of, instance_of, to_return, History, Past, Noted, noted, made_by, event_started, is_request_at, takes_reply_at}
+use Rattle.bus_semantics.specs.Common.{is_outstanding, start_names, serves, returned_by, returned_to, answer_to, result_of, key_fits, activation_may_want, wish_fits, fits, IsLegal}
+use Rattle.bus_semantics.specs.Common.{starts_its_own, is_proper}
+use Rattle.std.proofs.lemmas.Option.{some_pair_parts}
+use Rattle.bus_laws.specs.Common.{Actor, Act, Deed, IsAnswered}
 use Rattle.bus_semantics.specs.declared.entries.Deed.TheVariants as deed
-use Rattle.bus_semantics.specs.Plan.{Plan, server_of, instance_of}
-use Rattle.bus_semantics.specs.Wanted.{to_return}
-use Rattle.bus_semantics.specs.History.{History, Past, Noted, noted, made_by, event_started}
-use Rattle.bus_semantics.specs.Calls.{is_request_at, takes_reply_at, is_outstanding, start_names, serves, returned_by, returned_to, answer_to, result_of}
-use Rattle.bus_semantics.specs.Owners.{key_fits}
-use Rattle.bus_semantics.specs.Fitting.{activation_may_want, wish_fits, fits}
-use Rattle.bus_semantics.specs.Legal.{IsLegal}
-use Rattle.bus_semantics.specs.Locality.{starts_its_own, is_proper}
-use Rattle.bus_laws.specs.Returned.{IsAnswered}
 use Rattle.bus_laws.proofs.Thinning.{clash}
 use Rattle.bus_laws.proofs.LocalReturns.{newer_returned}
 use Rattle.bus_laws.proofs.Local.{proper_legal}

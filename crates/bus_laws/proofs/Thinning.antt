@@ -1,20 +1,9 @@
 -- Entries of which a definition makes nothing may be left out of a history.
 use Rattle.std.proofs.Common.{◌≡◌, ◌<◌, ℕ, zero, suc, ◌+◌, ℤ, Bool, true, false, ◌&&◌, ◌||◌, not, ◌==◌, if◌then◌else◌, refl, sym, ◌∙◌, ap, subst, arith, List, [], ◌∷◌, length, Option, Some, None}
 use Rattle.std.specs.Prelude.{filter}
-use Rattle.std.specs.Cmp.{unsigned_Decides}
-use Rattle.std.specs.List.{list_all, list_any, slice_get}
-use Rattle.std.specs.Option.{option_or, option_map_or}
-use Rattle.std.proofs.lemmas.Bool.{and_parts, false≢true}
-use Rattle.std.proofs.lemmas.Bool.Decides.{nat_tests}
-use Rattle.rte_value.specs.Values.{same_number, same_words}
-use Rattle.rte_value.specs.EqualValues.{same_words-Decides}
-use Rattle.rte_value.specs.EqualKeys.{same_number-Decides}
-use Rattle.bus_semantics.specs.declared.entries.Actor.{Actor}
-use Rattle.bus_semantics.specs.declared.entries.Deed.{Deed}
-use Rattle.bus_semantics.specs.Plan.{every_from}
-use Rattle.bus_semantics.specs.History.{Past, Noted, newest, count}
-use Rattle.bus_semantics.specs.Due.{follows_last}
-use Rattle.bus_semantics.specs.Legal.{same_bool}
+use Rattle.bus_semantics.specs.Common.{unsigned_Decides, list_all, list_any, slice_get, option_or, option_map_or, and_parts, false≢true, nat_tests, same_number, same_words}
+use Rattle.bus_semantics.specs.Common.{same_words-Decides, same_number-Decides, every_from, Past, Noted, newest, count, follows_last, same_bool}
+use Rattle.bus_laws.specs.Common.{Actor, Deed}
 
 -- ---- tests
 

@@ -1,9 +1,7 @@
 -- The rank of a task rises along a chain of waiting calls.
 use Rattle.std.proofs.Common.{◌≡◌, ◌<◌, ◌≤◌, ℕ, zero, suc, ap, arith}
-use Rattle.bus_semantics.specs.declared.script.Mapping.{Mapping}
-use Rattle.bus_semantics.specs.Plan.{Plan}
-use Rattle.bus_semantics.specs.Sound.{WaitOrder, IsSound}
-use Rattle.bus_laws.specs.Waiting.{Chain}
+use Rattle.bus_laws.specs.Common.{Mapping, Chain}
+use Rattle.bus_semantics.specs.Common.{Plan, WaitOrder, IsSound}
 
 module _ (p : Plan) (m : Mapping) (order : WaitOrder p m) where
   not_lower : (n a c : ℕ) → Chain p m n a c → order.rank a ≤ order.rank c

@@ -2,14 +2,8 @@
 -- a queue accepted (SWS_RTE: activation of runnable entities, mode switch procedure, Rte_Send). Entries stand the newest first, accepted
 -- values the oldest first.
 use Rattle.std.specs.Prelude.{◌≡◌, ◌<◌, ℕ, suc, ◌+◌, ◌%◌, ℤ, List, [], ◌∷◌, ◌++◌, length, Bool, true, false, ◌||◌, Some}
-use Rattle.std.specs.List.{list_any}
+use Rattle.bus_semantics.specs.Common.{list_any, Plan, Past, Noted, phase_of, is_phase, is_start_by, is_end_by, sent_to, taken_at, accepted_at, places_at, ticks}
 use Rattle.bus_semantics.specs.declared.entries.Deed.TheVariants as deed
-use Rattle.bus_semantics.specs.Plan.{Plan}
-use Rattle.bus_semantics.specs.History.{Past, Noted}
-use Rattle.bus_semantics.specs.Modes.{phase_of, is_phase}
-use Rattle.bus_semantics.specs.Owed.{is_start_by, is_end_by}
-use Rattle.bus_semantics.specs.Queued.{sent_to, taken_at, accepted_at, places_at}
-use Rattle.bus_semantics.specs.Due.{ticks}
 
 -- an entry did it, and neither it nor a later one is a start
 pub record HappenedSince (starts : Noted → Bool) (happened : Noted → Past → Bool) (h : Past) : Type 0 where

@@ -2,3 +2,4 @@ pub mod Bounds
 pub mod Happened
 pub mod Returned
 pub mod Waiting
+pub mod Common

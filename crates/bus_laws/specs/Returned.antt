@@ -1,14 +1,9 @@
 -- What was returned to a request, as a relation above the recursions on calls (SWS_RTE: Rte_Call, Rte_Result). Entries stand the newest
 -- first.
 use Rattle.std.specs.Prelude.{◌≡◌, ℕ, ℤ, List, ◌∷◌, ◌++◌, true, false, ◌&&◌, ◌||◌, is_some, Some}
-use Rattle.std.specs.List.{list_any}
-use Rattle.rte_value.specs.declared.kinds.ActKey.{ActKey}
-use Rattle.rte_value.specs.declared.value.Value.{Value}
-use Rattle.rte_value.specs.Values.{words_of}
+use Rattle.bus_semantics.specs.Common.{list_any, ActKey, Value, words_of, Past, Noted, made_by, event_started, is_request_at, takes_reply_at, start_names}
 use Rattle.bus_semantics.specs.declared.entries.Actor.TheVariants.{Act}
 use Rattle.bus_semantics.specs.declared.entries.Deed.TheVariants as deed
-use Rattle.bus_semantics.specs.History.{Past, Noted, made_by, event_started}
-use Rattle.bus_semantics.specs.Calls.{is_request_at, takes_reply_at, start_names}
 
 -- A request at the point, a start that names the point after it, and the return of that activation after the start. The request is the
 -- point's last one, and no reply was taken of it.

@@ -1,31 +1,17 @@
 //! Laws about the definitions.
 
 ghost use Rattle.std.specs.Prelude.{◌≡◌, ◌↔◌, ℕ, ℤ, suc, ◌+◌, ◌*◌, ◌≤◌, List, length, slice_get, nat_le, [], Bool, true, false, Some, None};
-ghost use Rattle.runnable_lang.specs.Trees.{BodyTree};
-ghost use Rattle.runnable_lang.specs.Costs.{body_cost};
-ghost use Rattle.runnable_lang.specs.Refusals.{refusal};
+ghost use Rattle.bus_semantics.specs.Common.{BodyTree, body_cost, refusal, Plan, Runnable, kind_of, server_of, State, run_program, is_well_formed, body_sound, History, Noted, Past, noted};
+ghost use Rattle.bus_semantics.specs.Common.{to_start, to_enter, to_hear, answer_to, result_of, is_held, IsStuck, is_due, follows_last, is_done, accepted_at, taken_at, places_at, IsSound};
+ghost use Rattle.bus_semantics.specs.Common.{IsLegal, is_legal};
 ghost use Rattle.bus_semantics.specs.declared.entries.Actor.{Actor};
 ghost use Rattle.bus_semantics.specs.declared.entries.Deed.{Deed};
 ghost use Rattle.bus_semantics.specs.declared.plan.EventKind.TheVariants.{Timing};
 ghost use Rattle.bus_semantics.specs.declared.script.Mapping.{Mapping};
-ghost use Rattle.bus_semantics.specs.Plan.{Plan, Runnable, kind_of, server_of};
-ghost use Rattle.bus_semantics.specs.State.{State};
-ghost use Rattle.bus_semantics.specs.Programs.{run_program};
 ghost use Rattle.bus_laws.specs.Bounds.{UsesAtMost};
-ghost use Rattle.bus_semantics.specs.SoundPrograms.{is_well_formed, body_sound};
-ghost use Rattle.bus_semantics.specs.History.{History, Noted, Past, noted};
-ghost use Rattle.bus_semantics.specs.Wanted.{to_start, to_enter, to_hear};
-ghost use Rattle.bus_semantics.specs.Calls.{answer_to, result_of};
-ghost use Rattle.bus_semantics.specs.Areas.{is_held};
-ghost use Rattle.bus_semantics.specs.Rest.{IsStuck};
-ghost use Rattle.bus_semantics.specs.Due.{is_due, follows_last};
-ghost use Rattle.bus_semantics.specs.Owed.{is_done};
-ghost use Rattle.bus_semantics.specs.Queued.{accepted_at, taken_at, places_at};
-ghost use Rattle.bus_semantics.specs.Sound.{IsSound};
 ghost use Rattle.bus_laws.specs.Happened.{HappenedSince, TickedSince, DoneInPhase, IsAccepted};
 ghost use Rattle.bus_laws.specs.Returned.{IsAnswered};
 ghost use Rattle.bus_laws.specs.Waiting.{Chain};
-ghost use Rattle.bus_semantics.specs.Legal.{IsLegal, is_legal};
 
 /// A history is legal exactly if computing says so.
 pub fn legal_is_computed()

@@ -1,14 +1,8 @@
 //! The law of objects: what the bus answers looks at one object.
 
 ghost use Rattle.std.specs.Prelude.{◌≡◌, ℕ, filter, true, [], Some, None};
-ghost use Rattle.std.specs.List.{list_all};
+ghost use Rattle.bus_semantics.specs.Common.{list_all, Plan, History, Noted, Past, noted, touched_by, touches, IsLegal, is_proper, SameAnswers, IsSound};
 ghost use Rattle.bus_semantics.specs.declared.script.Mapping.{Mapping};
-ghost use Rattle.bus_semantics.specs.Plan.{Plan};
-ghost use Rattle.bus_semantics.specs.History.{History, Noted, Past, noted};
-ghost use Rattle.bus_semantics.specs.Objects.{touched_by, touches};
-ghost use Rattle.bus_semantics.specs.Legal.{IsLegal};
-ghost use Rattle.bus_semantics.specs.Locality.{is_proper, SameAnswers};
-ghost use Rattle.bus_semantics.specs.Sound.{IsSound};
 
 /// What the bus answers to an entry looks only at the earlier entries that touch the same object, for every deed; an entry
 /// that touches no object is answered as after no entry at all. The plan is sound, and each entry fits and starts no

@@ -1,14 +1,7 @@
 -- What has no newline begins with no item's line.
 use Rattle.std.proofs.Common.{◌≡◌, ℕ, Bool, true, not, ◌==◌, ◌∷◌, ◌++◌, codes, refl, sym, ap, ◌∙◌, subst, append_assoc}
-use Rattle.std.specs.List.{list_all}
-use Rattle.std.proofs.lemmas.Bool.{and_parts, false≢true}
-use Rattle.std.proofs.lemmas.List.Folds.{list_all-append}
-use Rattle.bus_semantics.specs.declared.version.Version.{Version}
-use Rattle.bus_semantics.specs.declared.version.Version.TheVariants.{One, Two}
-use Rattle.bus_semantics.specs.Plan.{Plan}
-use Rattle.bus_semantics.specs.Reading.{item_fits}
-use Rattle.bus_semantics.specs.Run.{Item}
-use Rattle.bus_semantics.specs.Spelling.{Letters, header, item_text}
+use Rattle.bus_semantics.specs.Common.{list_all, and_parts, false≢true, list_all-append, Plan, item_fits, Item, Letters, header, item_text}
+use Rattle.bus_laws.specs.Common.{Version, One, Two}
 use Rattle.trace_reading.specs.Reads.{ItemsHaveOneLine}
 
 abbrev unbroken : Letters → Bool

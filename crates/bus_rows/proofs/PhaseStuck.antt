@@ -1,23 +1,11 @@
 -- A machine that cannot go on, by computing.
 use Rattle.std.specs.Prelude.{◌≡◌, ℕ, Bool, true, false, not, ◌||◌, refl, Option, Some, None, is_some}
 use Rattle.std.proofs.Common.{sym, ◌∙◌, ap}
-use Rattle.std.proofs.lemmas.Bool.{false≢true}
-use Rattle.rte_value.specs.declared.kinds.Step.{Step}
+use Rattle.bus_semantics.specs.Common.{false≢true, Step, same_number, Plan, Wanted, to_move_on, History, Past, noted, note, stage_of, waits_of, all_done, none_runs_disabled, first_unbegun}
+use Rattle.bus_semantics.specs.Common.{phase_after, phase_may_come, Answers, Try, try_of, IsStuck}
 use Rattle.rte_value.specs.declared.kinds.Step.TheVariants as step
-use Rattle.rte_value.specs.Values.{same_number}
-use Rattle.bus_semantics.specs.declared.entries.Actor.{Actor}
-use Rattle.bus_semantics.specs.declared.entries.Actor.TheVariants.{Env, Machine, Act}
-use Rattle.bus_semantics.specs.declared.entries.Deed.{Deed}
+use Rattle.bus_laws.specs.Common.{Actor, Env, Machine, Act, Deed}
 use Rattle.bus_semantics.specs.declared.entries.Deed.TheVariants as deed
-use Rattle.bus_semantics.specs.Plan.{Plan}
-use Rattle.bus_semantics.specs.Wanted.{Wanted, to_move_on}
-use Rattle.bus_semantics.specs.History.{History, Past, noted, note}
-use Rattle.bus_semantics.specs.Modes.{stage_of, waits_of}
-use Rattle.bus_semantics.specs.Owed.{all_done}
-use Rattle.bus_semantics.specs.Admission.{none_runs_disabled}
-use Rattle.bus_semantics.specs.Phases.{first_unbegun, phase_after, phase_may_come}
-use Rattle.bus_semantics.specs.Legal.{Answers}
-use Rattle.bus_semantics.specs.Rest.{Try, try_of, IsStuck}
 
 -- whether some phase may come at this stage
 abbrev pub goes_on_from : Plan → (machine : ℕ) → Past → (stage : Step) → Bool

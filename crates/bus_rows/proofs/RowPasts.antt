@@ -1,14 +1,6 @@
 -- The entries of a session part into pasts of the objects, by computing.
 use Rattle.std.specs.Prelude.{◌≡◌, ℕ, List, [], ◌∷◌, Bool, true, ◌&&◌}
-use Rattle.std.proofs.lemmas.Bool.{and_parts}
-use Rattle.bus_semantics.specs.Plan.{Plan}
-use Rattle.bus_semantics.specs.History.{Past}
-use Rattle.bus_semantics.specs.Run.{history_of, Session}
-use Rattle.bus_semantics.specs.Legal.{answers}
-use Rattle.bus_semantics.specs.Locality.{is_proper}
-use Rattle.bus_semantics.specs.Matching.{matches}
-use Rattle.bus_semantics.specs.Objects.{touches, entries_of}
-use Rattle.bus_semantics.specs.Pasts.{IsPastOf}
+use Rattle.bus_semantics.specs.Common.{and_parts, Plan, Past, history_of, Session, answers, is_proper, matches, touches, entries_of, IsPastOf}
 use Rattle.bus_laws.proofs.Computing.{answered}
 use Rattle.bus_rows.specs.RowParts.{EachIsPast}
 

@@ -1,15 +1,9 @@
 -- A session is a run of its script, by computing: it is legal, and each closing word holds.
 use Rattle.std.specs.Prelude.{◌≡◌, List, [], ◌∷◌, Bool, true, not, ◌&&◌, ◌||◌, nat_le}
-use Rattle.std.specs.List.{list_all}
+use Rattle.bus_semantics.specs.Common.{list_all, and_parts, or_cases, Plan, History, is_legal, may_follow, Try, tries, none_runs, IsStuck, AllStuck, Closing, idle, unsettled, made}
+use Rattle.bus_semantics.specs.Common.{run_begins, run_closes, Session, history_of, is_inside, made_in_line, IsSessionOf, Holds, IsLegalRun, IsRunOf}
 use Rattle.std.proofs.Common.{inl, inr}
-use Rattle.std.proofs.lemmas.Bool.{and_parts, or_cases}
-use Rattle.bus_semantics.specs.declared.script.Line.{Line}
-use Rattle.bus_semantics.specs.declared.script.Mapping.{Mapping}
-use Rattle.bus_semantics.specs.Plan.{Plan}
-use Rattle.bus_semantics.specs.History.{History}
-use Rattle.bus_semantics.specs.Legal.{is_legal, may_follow}
-use Rattle.bus_semantics.specs.Rest.{Try, tries, none_runs, IsStuck, AllStuck}
-use Rattle.bus_semantics.specs.Run.{Closing, idle, unsettled, made, run_begins, run_closes, Session, history_of, is_inside, made_in_line, IsSessionOf, Holds, IsLegalRun, IsRunOf}
+use Rattle.bus_laws.specs.Common.{Line, Mapping}
 use Rattle.bus_laws.proofs.Computing.{followed}
 use Rattle.bus_laws.proofs.Resting.{could, stuck}
 use Rattle.bus_rows.proofs.PhaseStuck.{phase_could, phase_stuck}

@@ -1,13 +1,8 @@
 -- A plan with its mapping is sound exactly if no fact that is computed is broken and the tasks have an order; and a way to have one.
 use Rattle.std.specs.Prelude.{◌≡◌, ℕ, ◌+◌, List, [], ◌∷◌, Bool, true, false, ◌&&◌, if◌then◌else◌, nat_le, Some, refl}
-use Rattle.std.proofs.lemmas.Bool.{and_parts, and_from, false≢true}
-use Rattle.runnable_lang.specs.Costs.{body_cost}
+use Rattle.bus_semantics.specs.Common.{and_parts, and_from, false≢true, body_cost, Plan, Runnable, every_from, IsSound, WaitOrder, waits_for, names_fit, names_distinct, none_is_env}
+use Rattle.bus_semantics.specs.Common.{ports_agree, access_sound, each_access, accesses_distinct, areas_rise, body_sound, has_arguments}
 use Rattle.bus_semantics.specs.declared.script.Mapping.{Mapping}
-use Rattle.bus_semantics.specs.Plan.{Plan, Runnable, every_from}
-use Rattle.bus_semantics.specs.Sound.{IsSound, WaitOrder, waits_for}
-use Rattle.bus_semantics.specs.SoundNames.{names_fit, names_distinct, none_is_env, ports_agree}
-use Rattle.bus_semantics.specs.SoundAccesses.{access_sound, each_access, accesses_distinct, areas_rise}
-use Rattle.bus_semantics.specs.SoundPrograms.{body_sound, has_arguments}
 use Rattle.bus_rows.specs.SoundFacts.{Fact, facts, broken, broken_facts, LacksOnly}
 
 -- ---- facts

@@ -3,16 +3,10 @@
 use Rattle.std.specs.Prelude.{ℕ, List, [], ◌∷◌, ◌++◌, codes, true, Some, None}
 use Rattle.rte_value.specs.declared.kinds.Step.TheVariants as step
 use Rattle.runnable_lang.specs.declared.program.AccessKind.TheVariants as kind
-use Rattle.runnable_lang.specs.Trees.{switches, done, next}
-use Rattle.bus_semantics.specs.declared.plan.EventKind.TheVariants.{Init, Ack}
-use Rattle.bus_semantics.specs.declared.script.Line.{Line}
+use Rattle.bus_semantics.specs.Common.{switches, done, next, Plan, Runnable, run_begins, run_closes, idle, Session}
+use Rattle.bus_laws.specs.Common.{Init, Ack, Line, Mapping, Deed, Entry}
 use Rattle.bus_semantics.specs.declared.script.Line.TheVariants as line
-use Rattle.bus_semantics.specs.declared.script.Mapping.{Mapping}
-use Rattle.bus_semantics.specs.declared.entries.Deed.{Deed}
 use Rattle.bus_semantics.specs.declared.entries.Deed.TheVariants as deed
-use Rattle.bus_semantics.specs.declared.entries.Entry.{Entry}
-use Rattle.bus_semantics.specs.Plan.{Plan, Runnable}
-use Rattle.bus_semantics.specs.Run.{run_begins, run_closes, idle, Session}
 use Rattle.bus_rows.specs.RowParts.{naming, starting, task, act_of, by, machine, start}
 use Rattle.bus_rows.specs.ModeSwitch.{off_and_on, doing_nothing, phase_close, phase_exit, phase_transition, phase_entry, phase_stable}
 

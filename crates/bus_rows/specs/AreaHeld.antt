@@ -1,18 +1,11 @@
 -- A worked row of an exclusive area: two runnables on two cores each enter it, read a variable, write it plus one, and leave. Sessions
 -- have their newest item first.
 use Rattle.std.specs.Prelude.{ℕ, pos, List, [], ◌∷◌, ◌++◌, codes, None}
-use Rattle.rte_value.specs.ShortValues.{one_word}
+use Rattle.bus_semantics.specs.Common.{one_word, constant, variable, combined, in_area, reads_variable, writes_variable, done, next, Plan, Runnable, run_begins, run_closes, idle, Session}
 use Rattle.runnable_lang.specs.declared.program.AccessKind.TheVariants as kind
 use Rattle.runnable_lang.specs.declared.stmt.Op.TheVariants.{Add}
-use Rattle.runnable_lang.specs.Trees.{constant, variable, combined, in_area, reads_variable, writes_variable, done, next}
-use Rattle.bus_semantics.specs.declared.plan.ElemKind.TheVariants.{Variable}
-use Rattle.bus_semantics.specs.declared.plan.EventKind.TheVariants.{Timing}
-use Rattle.bus_semantics.specs.declared.script.Mapping.{Mapping}
-use Rattle.bus_semantics.specs.declared.entries.Deed.{Deed}
+use Rattle.bus_laws.specs.Common.{Variable, Timing, Mapping, Deed, Entry}
 use Rattle.bus_semantics.specs.declared.entries.Deed.TheVariants as deed
-use Rattle.bus_semantics.specs.declared.entries.Entry.{Entry}
-use Rattle.bus_semantics.specs.Plan.{Plan, Runnable}
-use Rattle.bus_semantics.specs.Run.{run_begins, run_closes, idle, Session}
 use Rattle.bus_rows.specs.RowParts.{a_variable, giving, taking, naming, starting, task, act_of, by, start, ten_ticks, ten_ticks_text}
 
 -- a runnable of instance `b`: in area `x` it counts `n` up

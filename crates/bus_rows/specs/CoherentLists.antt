@@ -1,18 +1,10 @@
 -- A worked plan: a writer and a reader of two elements, each with a coherent list of both; and the rows in which, after ten ticks, the
 -- writer publishes both or one of them, and the reader fetches both at one moment. Sessions have their newest item first.
 use Rattle.std.specs.Prelude.{ℕ, ℤ, pos, List, [], ◌∷◌, ◌++◌, codes, replicate, true, false, refl, Some, None}
-use Rattle.std.proofs.lemmas.Bool.{leb-true}
-use Rattle.rte_value.specs.declared.value.Value.{Value}
-use Rattle.rte_value.specs.ShortValues.{empty_value, one_word}
+use Rattle.bus_semantics.specs.Common.{leb-true, Value, empty_value, one_word, AccessSig, BodyTree, constant, writes_late, done, next, Plan, Runnable, run_begins, run_closes, idle, Session}
 use Rattle.runnable_lang.specs.declared.program.AccessKind.TheVariants as kind
-use Rattle.runnable_lang.specs.declared.program.AccessSig.{AccessSig}
-use Rattle.runnable_lang.specs.Trees.{BodyTree, constant, writes_late, done, next}
-use Rattle.bus_semantics.specs.declared.plan.ElemKind.TheVariants.{Unqueued}
-use Rattle.bus_semantics.specs.declared.plan.EventKind.TheVariants.{Timing}
+use Rattle.bus_laws.specs.Common.{Unqueued, Timing, Entry}
 use Rattle.bus_semantics.specs.declared.entries.Deed.TheVariants as deed
-use Rattle.bus_semantics.specs.declared.entries.Entry.{Entry}
-use Rattle.bus_semantics.specs.Plan.{Plan, Runnable}
-use Rattle.bus_semantics.specs.Run.{run_begins, run_closes, idle, Session}
 use Rattle.bus_rows.specs.RowParts.{provided, required, giving, taking, starting, act_of, by, start, ten_ticks, ten_ticks_text}
 
 abbrev pub two_words : ℤ → ℤ → Value

@@ -1,16 +1,9 @@
 -- The worked row of a direct call: the server runs within its caller's call. Sessions have their newest item first.
 use Rattle.std.specs.Prelude.{ℕ, pos, List, [], ◌∷◌, ◌++◌, codes, false, Some, None}
-use Rattle.rte_value.specs.ShortValues.{one_word}
+use Rattle.bus_semantics.specs.Common.{one_word, constant, calls, done, next, Plan, Runnable, Item, made, run_begins, run_closes, idle, Session}
 use Rattle.runnable_lang.specs.declared.program.AccessKind.TheVariants as kind
-use Rattle.runnable_lang.specs.Trees.{constant, calls, done, next}
-use Rattle.bus_semantics.specs.declared.plan.EventKind.TheVariants.{Timing, Invoked}
-use Rattle.bus_semantics.specs.declared.script.Mapping.{Mapping}
-use Rattle.bus_semantics.specs.declared.entries.Actor.TheVariants.{Act}
-use Rattle.bus_semantics.specs.declared.entries.Deed.{Deed}
+use Rattle.bus_laws.specs.Common.{Timing, Invoked, Mapping, Act, Deed, Entry}
 use Rattle.bus_semantics.specs.declared.entries.Deed.TheVariants as deed
-use Rattle.bus_semantics.specs.declared.entries.Entry.{Entry}
-use Rattle.bus_semantics.specs.Plan.{Plan, Runnable}
-use Rattle.bus_semantics.specs.Run.{Item, made, run_begins, run_closes, idle, Session}
 use Rattle.bus_rows.specs.RowParts.{one_limit, starting, task, act_of, by, start, ten_ticks, ten_ticks_text}
 use Rattle.bus_rows.specs.OutsideCall.{adder, operation, call_point, asked}
 

@@ -1,16 +1,10 @@
 -- Worked rows of implicit access: a runnable fetches at its start what it reads later, and publishes at its end what it wrote. Sessions
 -- have their newest item first.
 use Rattle.std.specs.Prelude.{ℕ, pos, List, [], ◌∷◌, ◌++◌, codes, true, false, Some, None}
-use Rattle.rte_value.specs.ShortValues.{one_word}
+use Rattle.bus_semantics.specs.Common.{one_word, constant, variable, writes, reads_early, writes_late, writes_variable, done, next, Plan, Runnable, run_begins, run_closes, idle, Session}
 use Rattle.runnable_lang.specs.declared.program.AccessKind.TheVariants as kind
-use Rattle.runnable_lang.specs.Trees.{constant, variable, writes, reads_early, writes_late, writes_variable, done, next}
-use Rattle.bus_semantics.specs.declared.plan.ElemKind.TheVariants.{Unqueued, Variable}
-use Rattle.bus_semantics.specs.declared.plan.EventKind.TheVariants.{Timing}
-use Rattle.bus_semantics.specs.declared.script.Mapping.{Mapping}
+use Rattle.bus_laws.specs.Common.{Unqueued, Variable, Timing, Mapping, Entry}
 use Rattle.bus_semantics.specs.declared.entries.Deed.TheVariants as deed
-use Rattle.bus_semantics.specs.declared.entries.Entry.{Entry}
-use Rattle.bus_semantics.specs.Plan.{Plan, Runnable}
-use Rattle.bus_semantics.specs.Run.{run_begins, run_closes, idle, Session}
 use Rattle.bus_rows.specs.RowParts.{a_variable, provided, required, giving, taking, starting, task, act_of, by, start, ten_ticks, ten_ticks_text}
 use Rattle.bus_rows.specs.OneWriter.{writer, reader}
 

@@ -2,22 +2,12 @@
 -- and on entry, each on a core of its own. Sessions have their newest item first.
 use Rattle.std.specs.Prelude.{ℕ, List, [], ◌∷◌, ◌++◌, codes, Bool, true, false, Option, Some, None}
 use Rattle.rte_value.specs.declared.kinds.Step.TheVariants as step
-use Rattle.runnable_lang.specs.Trees.{done}
-use Rattle.bus_semantics.specs.declared.plan.MachinePlan.{MachinePlan}
-use Rattle.bus_semantics.specs.declared.plan.ModePortPlan.{ModePortPlan}
-use Rattle.bus_semantics.specs.declared.plan.EventPlan.{EventPlan}
-use Rattle.bus_semantics.specs.declared.plan.EventKind.TheVariants.{Timing, ModeSwitch}
-use Rattle.bus_semantics.specs.declared.plan.Moment.{Moment}
+use Rattle.bus_semantics.specs.Common.{done, Plan, Runnable, run_begins, run_closes, idle, Session}
+use Rattle.bus_laws.specs.Common.{MachinePlan, ModePortPlan, EventPlan, Timing, ModeSwitch, Moment, Line, Mapping, Deed, Entry}
 use Rattle.bus_semantics.specs.declared.plan.Moment.TheVariants.{OnExit, OnTransition, OnEntry}
-use Rattle.bus_semantics.specs.declared.script.Line.{Line}
 use Rattle.bus_semantics.specs.declared.script.Line.TheVariants as line
-use Rattle.bus_semantics.specs.declared.script.Mapping.{Mapping}
-use Rattle.bus_semantics.specs.declared.entries.Deed.{Deed}
 use Rattle.bus_semantics.specs.declared.entries.Deed.TheVariants as deed
-use Rattle.bus_semantics.specs.declared.entries.Entry.{Entry}
 use Rattle.bus_semantics.specs.declared.entries.Wish.TheVariants as wish
-use Rattle.bus_semantics.specs.Plan.{Plan, Runnable}
-use Rattle.bus_semantics.specs.Run.{run_begins, run_closes, idle, Session}
 use Rattle.bus_rows.specs.RowParts.{starting, task, act_of, machine_of, by, env, machine, start, ten_ticks, ten_ticks_text}
 
 -- a machine with the modes `Off`, where it begins, and `On`

@@ -1,18 +1,11 @@
 -- A worked plan: a writer and a reader of one element, each with a period, in one task on one core; and the row in which, after ten
 -- ticks, the writer writes 7 and the reader reads it. Sessions have their newest item first.
 use Rattle.std.specs.Prelude.{ℕ, pos, List, [], ◌∷◌, ◌++◌, codes, true, Some, None}
-use Rattle.rte_value.specs.ShortValues.{one_word}
+use Rattle.bus_semantics.specs.Common.{one_word, constant, writes, reads, done, next, Plan, Runnable, run_begins, run_closes, idle, Session}
 use Rattle.runnable_lang.specs.declared.program.AccessKind.TheVariants as kind
-use Rattle.runnable_lang.specs.Trees.{constant, writes, reads, done, next}
-use Rattle.bus_semantics.specs.declared.plan.ElemKind.TheVariants.{Unqueued}
-use Rattle.bus_semantics.specs.declared.plan.EventKind.TheVariants.{Timing}
-use Rattle.bus_semantics.specs.declared.script.Line.{Line}
+use Rattle.bus_laws.specs.Common.{Unqueued, Timing, Line, Mapping, Entry}
 use Rattle.bus_semantics.specs.declared.script.Line.TheVariants as line
-use Rattle.bus_semantics.specs.declared.script.Mapping.{Mapping}
 use Rattle.bus_semantics.specs.declared.entries.Deed.TheVariants as deed
-use Rattle.bus_semantics.specs.declared.entries.Entry.{Entry}
-use Rattle.bus_semantics.specs.Plan.{Plan, Runnable}
-use Rattle.bus_semantics.specs.Run.{run_begins, run_closes, idle, Session}
 use Rattle.bus_rows.specs.RowParts.{provided, required, giving, taking, starting, task, act_of, by, start, ten_ticks, ten_ticks_text}
 
 -- runnable `Step` of an instance: it writes 7 to its element `o.v`

@@ -1,21 +1,12 @@
 -- The worked row of a call from outside: the environment asks a server with a queue, and takes the result. Sessions have their newest
 -- item first.
 use Rattle.std.specs.Prelude.{ℕ, pos, List, [], ◌∷◌, ◌++◌, codes, Bool, true, false, Option, Some, None}
-use Rattle.rte_value.specs.ShortValues.{empty_value, one_word}
+use Rattle.bus_semantics.specs.Common.{empty_value, one_word, constant, variable, combined, sets, done, next, Plan, Runnable, run_begins, run_closes, idle, Session}
 use Rattle.runnable_lang.specs.declared.stmt.Op.TheVariants.{Add}
-use Rattle.runnable_lang.specs.Trees.{constant, variable, combined, sets, done, next}
-use Rattle.bus_semantics.specs.declared.plan.PointPlan.{PointPlan}
-use Rattle.bus_semantics.specs.declared.plan.ServerPlan.{ServerPlan}
-use Rattle.bus_semantics.specs.declared.plan.EventKind.TheVariants.{Invoked}
-use Rattle.bus_semantics.specs.declared.script.Line.{Line}
+use Rattle.bus_laws.specs.Common.{PointPlan, ServerPlan, Invoked, Line, Mapping, Deed, Entry}
 use Rattle.bus_semantics.specs.declared.script.Line.TheVariants as line
-use Rattle.bus_semantics.specs.declared.script.Mapping.{Mapping}
-use Rattle.bus_semantics.specs.declared.entries.Deed.{Deed}
 use Rattle.bus_semantics.specs.declared.entries.Deed.TheVariants as deed
-use Rattle.bus_semantics.specs.declared.entries.Entry.{Entry}
 use Rattle.bus_semantics.specs.declared.entries.Wish.TheVariants as wish
-use Rattle.bus_semantics.specs.Plan.{Plan, Runnable}
-use Rattle.bus_semantics.specs.Run.{run_begins, run_closes, idle, Session}
 use Rattle.bus_rows.specs.RowParts.{to_1000, one_limit, starting, task, env_of, by, env}
 
 -- runnable `Serve` of an instance: it returns `a` plus one in `b`, and the application error 5

@@ -1,16 +1,10 @@
 -- A worked row of a server with a queue: one client waits for its answer, and another one goes on and takes its result when it is told
 -- (AsynchronousServerCallReturnsEvent). Sessions have their newest item first.
 use Rattle.std.specs.Prelude.{ℕ, pos, List, [], ◌∷◌, ◌++◌, codes, true, false, Some, None}
-use Rattle.rte_value.specs.ShortValues.{one_word}
+use Rattle.bus_semantics.specs.Common.{one_word, constant, calls_and_goes_on, takes_result, done, next, Plan, Runnable, run_begins, run_closes, idle, Session}
 use Rattle.runnable_lang.specs.declared.program.AccessKind.TheVariants as kind
-use Rattle.runnable_lang.specs.Trees.{constant, calls_and_goes_on, takes_result, done, next}
-use Rattle.bus_semantics.specs.declared.plan.EventKind.TheVariants.{Timing, Invoked, Returns}
-use Rattle.bus_semantics.specs.declared.script.Mapping.{Mapping}
-use Rattle.bus_semantics.specs.declared.entries.Deed.{Deed}
+use Rattle.bus_laws.specs.Common.{Timing, Invoked, Returns, Mapping, Deed, Entry}
 use Rattle.bus_semantics.specs.declared.entries.Deed.TheVariants as deed
-use Rattle.bus_semantics.specs.declared.entries.Entry.{Entry}
-use Rattle.bus_semantics.specs.Plan.{Plan, Runnable}
-use Rattle.bus_semantics.specs.Run.{run_begins, run_closes, idle, Session}
 use Rattle.bus_rows.specs.RowParts.{giving, taking, starting, task, act_of, by, start, ten_ticks, ten_ticks_text}
 use Rattle.bus_rows.specs.OutsideCall.{adder, operation, call_point}
 use Rattle.bus_rows.specs.DirectCall.{client}

@@ -1,20 +1,12 @@
 -- Worked rows of queued data: the environment sends to receivers that each take three times, with queues of some lengths. Sessions have
 -- their newest item first.
 use Rattle.std.specs.Prelude.{ℕ, pos, List, [], ◌∷◌, ◌++◌, codes, true, Some, None}
-use Rattle.rte_value.specs.ShortValues.{empty_value, one_word}
+use Rattle.bus_semantics.specs.Common.{empty_value, one_word, receives, repeats, done, next, Plan, Runnable, run_begins, run_closes, idle, Session}
 use Rattle.runnable_lang.specs.declared.program.AccessKind.TheVariants as kind
-use Rattle.runnable_lang.specs.Trees.{receives, repeats, done, next}
-use Rattle.bus_semantics.specs.declared.plan.ElemKind.TheVariants.{Queued}
-use Rattle.bus_semantics.specs.declared.plan.EventKind.TheVariants.{DataReceived}
-use Rattle.bus_semantics.specs.declared.script.Line.{Line}
+use Rattle.bus_laws.specs.Common.{Queued, DataReceived, Line, Mapping, Deed, Entry}
 use Rattle.bus_semantics.specs.declared.script.Line.TheVariants as line
-use Rattle.bus_semantics.specs.declared.script.Mapping.{Mapping}
-use Rattle.bus_semantics.specs.declared.entries.Deed.{Deed}
 use Rattle.bus_semantics.specs.declared.entries.Deed.TheVariants as deed
-use Rattle.bus_semantics.specs.declared.entries.Entry.{Entry}
 use Rattle.bus_semantics.specs.declared.entries.Wish.TheVariants as wish
-use Rattle.bus_semantics.specs.Plan.{Plan, Runnable}
-use Rattle.bus_semantics.specs.Run.{run_begins, run_closes, idle, Session}
 use Rattle.bus_rows.specs.RowParts.{provided, required, taking, starting, task, act_of, env_of, by, env, start}
 
 -- runnable `Take` of an instance: it receives three times from `q.v`

@@ -1,25 +1,10 @@
 -- What the worked rows share: parts of their plans, items of their sessions, and what it is that an entry is refused. Sessions have
 -- their newest item first.
 use Rattle.std.specs.Prelude.{◌≡◌, ℕ, pos, List, [], ◌∷◌, codes, replicate, Bool, true, false, Option, Some, None}
-use Rattle.rte_value.specs.declared.kinds.Limits.{Limits}
-use Rattle.rte_value.specs.ShortValues.{empty_value, one_word}
-use Rattle.runnable_lang.specs.declared.program.AccessKind.{AccessKind}
-use Rattle.runnable_lang.specs.declared.program.AccessSig.{AccessSig}
-use Rattle.bus_semantics.specs.declared.plan.ElemPlan.{ElemPlan}
-use Rattle.bus_semantics.specs.declared.plan.ElemKind.{ElemKind}
-use Rattle.bus_semantics.specs.declared.plan.EventPlan.{EventPlan}
-use Rattle.bus_semantics.specs.declared.plan.EventKind.{EventKind}
-use Rattle.bus_semantics.specs.declared.script.Task.{Task}
-use Rattle.bus_semantics.specs.declared.entries.Actor.TheVariants.{Env, Machine, Act}
-use Rattle.bus_semantics.specs.declared.entries.Deed.{Deed}
+use Rattle.bus_semantics.specs.Common.{Limits, empty_value, one_word, AccessKind, AccessSig, Plan, positions, entries_of, IsPastOf, fits, is_legal, broken_clause, Item, made, history_of}
+use Rattle.bus_semantics.specs.Common.{Session}
+use Rattle.bus_laws.specs.Common.{ElemPlan, ElemKind, EventPlan, EventKind, Task, Env, Machine, Act, Deed, Entry}
 use Rattle.bus_semantics.specs.declared.entries.Deed.TheVariants as deed
-use Rattle.bus_semantics.specs.declared.entries.Entry.{Entry}
-use Rattle.bus_semantics.specs.Plan.{Plan, positions}
-use Rattle.bus_semantics.specs.Objects.{entries_of}
-use Rattle.bus_semantics.specs.Pasts.{IsPastOf}
-use Rattle.bus_semantics.specs.Fitting.{fits}
-use Rattle.bus_semantics.specs.Legal.{is_legal, broken_clause}
-use Rattle.bus_semantics.specs.Run.{Item, made, history_of, Session}
 
 -- ---- plans: words from 0 to 1000, and elements of one such word that begin at 0
 

@@ -1,18 +1,10 @@
 -- What a plan with its mapping lacks to be sound: the facts that are computed, each by a name of its own.
 use Rattle.std.specs.Prelude.{◌≡◌, List, [], ◌∷◌, Bool, ◌&&◌, nat_lt, nat_le, length, if◌then◌else◌, Some}
-use Rattle.std.specs.List.{list_all}
-use Rattle.runnable_lang.specs.Costs.{body_cost}
-use Rattle.bus_semantics.specs.declared.plan.ModePortPlan.{ModePortPlan}
-use Rattle.bus_semantics.specs.declared.script.Mapping.{Mapping}
-use Rattle.bus_semantics.specs.Plan.{Plan, Runnable, every_from}
-use Rattle.bus_semantics.specs.Sound.{IsSound, WaitOrder, mapping_fits, queue_lengths}
-use Rattle.bus_semantics.specs.SoundPlan.{is_arranged, instances_exist, groups_fit, objects_counted}
-use Rattle.bus_semantics.specs.SoundElements.{elem_sound, machine_sound, joins_fit}
-use Rattle.bus_semantics.specs.SoundNames.{names_fit, names_distinct, none_is_env, ports_agree, ports_together}
-use Rattle.bus_semantics.specs.SoundAccesses.{access_sound, each_access, accesses_distinct, areas_rise, points_arranged, points_fit}
-use Rattle.bus_semantics.specs.SoundPrograms.{body_sound, has_arguments}
-use Rattle.bus_semantics.specs.SoundEvents.{event_sound, server_served, serves_back, direct_sound}
-use Rattle.bus_semantics.specs.SoundLists.{lists_sound, bundles_fit}
+use Rattle.bus_semantics.specs.Common.{list_all, body_cost, Plan, Runnable, every_from, IsSound, WaitOrder, mapping_fits, queue_lengths, is_arranged, instances_exist, groups_fit}
+use Rattle.bus_semantics.specs.Common.{objects_counted, elem_sound, machine_sound, joins_fit, names_fit, names_distinct, none_is_env, ports_agree, ports_together, access_sound, each_access}
+use Rattle.bus_semantics.specs.Common.{accesses_distinct, areas_rise, points_arranged, points_fit, body_sound, has_arguments, event_sound, server_served, serves_back, direct_sound}
+use Rattle.bus_semantics.specs.Common.{lists_sound, bundles_fit}
+use Rattle.bus_laws.specs.Common.{ModePortPlan, Mapping}
 
 -- the facts of `IsSound` and of its runnables, except the order of waiting calls
 pub data Fact : Type 0 where

@@ -1,8 +1,7 @@
 -- Traces that are checked, and sessions up to the line that is refused.
 use Rattle.std.specs.Prelude.{ℕ, pos, List, ◌∷◌, ◌++◌, codes, false}
-use Rattle.rte_value.specs.ShortValues.{one_word}
+use Rattle.bus_semantics.specs.Common.{one_word, Session, run_begins}
 use Rattle.bus_semantics.specs.declared.entries.Deed.TheVariants as deed
-use Rattle.bus_semantics.specs.Run.{Session, run_begins}
 use Rattle.bus_rows.specs.RowParts.{by, start, ten_ticks, ten_ticks_text}
 use Rattle.bus_rows.specs.ModeSwitch.{until_closed, until_exit}
 

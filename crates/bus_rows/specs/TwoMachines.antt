@@ -2,16 +2,12 @@
 -- machine. Sessions have their newest item first.
 use Rattle.std.specs.Prelude.{ℕ, List, [], ◌∷◌, ◌++◌, codes, true, None}
 use Rattle.runnable_lang.specs.declared.program.AccessKind.TheVariants as kind
-use Rattle.runnable_lang.specs.Trees.{asks_mode, done, next}
+use Rattle.bus_semantics.specs.Common.{asks_mode, done, next, Plan, Runnable, run_begins, run_closes, idle, Session}
 use Rattle.bus_semantics.specs.declared.plan.Moment.TheVariants.{OnEntry}
-use Rattle.bus_semantics.specs.declared.script.Line.{Line}
+use Rattle.bus_laws.specs.Common.{Line, Mapping, Entry}
 use Rattle.bus_semantics.specs.declared.script.Line.TheVariants as line
-use Rattle.bus_semantics.specs.declared.script.Mapping.{Mapping}
 use Rattle.bus_semantics.specs.declared.entries.Deed.TheVariants as deed
-use Rattle.bus_semantics.specs.declared.entries.Entry.{Entry}
 use Rattle.bus_semantics.specs.declared.entries.Wish.TheVariants as wish
-use Rattle.bus_semantics.specs.Plan.{Plan, Runnable}
-use Rattle.bus_semantics.specs.Run.{run_begins, run_closes, idle, Session}
 use Rattle.bus_rows.specs.RowParts.{naming, task, act_of, machine_of, by, env, machine, start}
 use Rattle.bus_rows.specs.ModeSwitch.{off_and_on, mode_port, owed, phase_close, phase_exit, phase_transition, phase_entry, phase_stable}
 

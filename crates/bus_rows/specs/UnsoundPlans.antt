@@ -2,14 +2,8 @@
 -- there is sound.
 use Rattle.std.specs.Prelude.{ℕ, pos, List, [], ◌∷◌, codes, replicate, true, false, Option, Some, None}
 use Rattle.runnable_lang.specs.declared.program.AccessKind.TheVariants as kind
-use Rattle.runnable_lang.specs.declared.program.AccessSig.{AccessSig}
-use Rattle.runnable_lang.specs.Trees.{StmtTree, constant, variable, in_area, calls, done, next}
-use Rattle.bus_semantics.specs.declared.plan.ElemPlan.{ElemPlan}
-use Rattle.bus_semantics.specs.declared.plan.ElemKind.TheVariants.{Unqueued}
-use Rattle.bus_semantics.specs.declared.plan.PointPlan.{PointPlan}
-use Rattle.bus_semantics.specs.declared.plan.EventKind.TheVariants.{Timing, Invoked}
-use Rattle.bus_semantics.specs.declared.script.Mapping.{Mapping}
-use Rattle.bus_semantics.specs.Plan.{Plan, Runnable}
+use Rattle.bus_semantics.specs.Common.{AccessSig, StmtTree, constant, variable, in_area, calls, done, next, Plan, Runnable}
+use Rattle.bus_laws.specs.Common.{ElemPlan, Unqueued, PointPlan, Timing, Invoked, Mapping}
 use Rattle.bus_rows.specs.RowParts.{to_1000, one_limit, provided, naming, starting, task}
 use Rattle.bus_rows.specs.OneWriter.{writer, reader, one_writer}
 use Rattle.bus_rows.specs.OutsideCall.{operation, call_point}

@@ -1,19 +1,11 @@
 -- Two worked rows of one mode switch, while an activation runs that the next mode disables: a machine that waits goes on after its end,
 -- and a machine that does not wait (an asynchronous mode switch) goes on meanwhile. Sessions have their newest item first.
 use Rattle.std.specs.Prelude.{ℕ, pos, List, [], ◌∷◌, ◌++◌, codes, Bool, true, false, Some, None}
-use Rattle.rte_value.specs.ShortValues.{one_word}
+use Rattle.bus_semantics.specs.Common.{one_word, StmtTree, constant, writes_variable, switches, done, next, Plan, Runnable, run_begins, run_closes, idle, Session}
 use Rattle.runnable_lang.specs.declared.program.AccessKind.TheVariants as kind
-use Rattle.runnable_lang.specs.Trees.{StmtTree, constant, writes_variable, switches, done, next}
-use Rattle.bus_semantics.specs.declared.plan.ElemKind.TheVariants.{Variable}
-use Rattle.bus_semantics.specs.declared.plan.EventKind.TheVariants.{Timing}
-use Rattle.bus_semantics.specs.declared.script.Line.{Line}
+use Rattle.bus_laws.specs.Common.{Variable, Timing, Line, Mapping, Deed, Entry}
 use Rattle.bus_semantics.specs.declared.script.Line.TheVariants as line
-use Rattle.bus_semantics.specs.declared.script.Mapping.{Mapping}
-use Rattle.bus_semantics.specs.declared.entries.Deed.{Deed}
 use Rattle.bus_semantics.specs.declared.entries.Deed.TheVariants as deed
-use Rattle.bus_semantics.specs.declared.entries.Entry.{Entry}
-use Rattle.bus_semantics.specs.Plan.{Plan, Runnable}
-use Rattle.bus_semantics.specs.Run.{run_begins, run_closes, idle, Session}
 use Rattle.bus_rows.specs.RowParts.{a_variable, giving, naming, starting, task, machine_of, by, machine, start, ten_ticks, ten_ticks_text}
 use Rattle.bus_rows.specs.ModeSwitch.{off_and_on, mode_port, disabled_in_on, phase_close, phase_exit, phase_transition, phase_entry, phase_stable}
 

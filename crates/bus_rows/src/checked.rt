@@ -5,7 +5,8 @@ ghost use Rattle.trace_reading.specs.declared.checked.Checked.TheVariants.{Legal
 ghost use Rattle.trace_reading.specs.Verdicts.{IsVerdict};
 ghost use Rattle.bus_rows.specs.OneWriter.{one_writer, one_task, ten_ticks_and_run, written_then_read_text};
 ghost use Rattle.bus_rows.specs.ModeSwitch.{one_machine, three_cores, switch_and_run, switched_text, switched_text_by_names};
-ghost use Rattle.bus_rows.specs.Traces.{by_names, cut_before_look, cut_in_word, eight_written, eleven_ticks, idle_before_look, idle_first, run_first, six_read_text, no_such_version, phases_exchanged, phases_exchanged_by_names, cut_in_phase};
+ghost use Rattle.bus_rows.specs.Traces.{by_names, cut_before_look, cut_in_word, eight_written, eleven_ticks, idle_before_look, idle_first, run_first, six_read_text, no_such_version};
+ghost use Rattle.bus_rows.specs.Traces.{phases_exchanged, phases_exchanged_by_names, cut_in_phase};
 
 use crate::rows::{mode_switch_on_three_cores, ten_ticks_write_then_read};
 use trace_reading::items_have_one_line;

@@ -1,25 +1,24 @@
 //! Worked rows, by computing.
 
 ghost use Rattle.std.specs.Prelude.{◌≡◌, true, false};
-ghost use Rattle.bus_semantics.specs.Fitting.{fits};
-ghost use Rattle.bus_semantics.specs.Legal.{is_legal};
-ghost use Rattle.bus_semantics.specs.Quiet.{IsQuiet};
-ghost use Rattle.bus_semantics.specs.Rest.{IsAtRest};
-ghost use Rattle.bus_semantics.specs.Run.{history_of, IsRunOf};
-ghost use Rattle.bus_semantics.specs.Sound.{IsSound};
-ghost use Rattle.bus_semantics.specs.Spelling.{Spells};
+ghost use Rattle.bus_semantics.specs.Common.{fits, is_legal, IsQuiet, IsAtRest, history_of, IsRunOf, IsSound, Spells};
 ghost use Rattle.bus_semantics.specs.declared.version.Version.TheVariants.{One, Two};
 ghost use Rattle.bus_rows.specs.RowParts.{IsRefusedBy, PartsIntoPasts, ten_ticks};
 ghost use Rattle.bus_rows.specs.OneWriter.{one_writer, one_task, ten_ticks_and_run, written_then_read, written_then_read_text, until_look, six_read};
-ghost use Rattle.bus_rows.specs.Queues.{one_queue, one_event, three_sends, third_lost, third_lost_text, two_sent, third_accepted, until_take, oldest_overwritten, loss_untold, two_queues, two_events, two_sends, one_full, one_full_text, until_taken, blocked_for_all};
-ghost use Rattle.bus_rows.specs.ImplicitAccess.{early_reader, two_tasks, fetched_kept, fetched_kept_text, until_written, read_again, late_publisher, published_late, published_late_text, until_between, seen_at_once, first_published};
+ghost use Rattle.bus_rows.specs.Queues.{one_queue, one_event, three_sends, third_lost, third_lost_text, two_sent, third_accepted, until_take, oldest_overwritten, loss_untold, two_queues};
+ghost use Rattle.bus_rows.specs.Queues.{two_events, two_sends, one_full, one_full_text, until_taken, blocked_for_all};
+ghost use Rattle.bus_rows.specs.ImplicitAccess.{early_reader, two_tasks, fetched_kept, fetched_kept_text, until_written, read_again, late_publisher, published_late, published_late_text};
+ghost use Rattle.bus_rows.specs.ImplicitAccess.{until_between, seen_at_once, first_published};
 ghost use Rattle.bus_rows.specs.SoundFacts.{ListsSound, LacksOnly};
-ghost use Rattle.bus_rows.specs.CoherentLists.{writes_both, writes_second, two_lists, listed_twice, until_published, until_fetched, both_fetched, both_fetched_text, until_second_fetched, second_fetched, second_fetched_text, fetched_at_two_moments, both_seen, both_published, fetched_too_few, fetched_alone, published_first, published_none, published_crossed, published_alone, publication_too_short, marks_past_the_list, foreign_list, list_of_writes};
+ghost use Rattle.bus_rows.specs.CoherentLists.{writes_both, writes_second, two_lists, listed_twice, until_published, until_fetched, both_fetched, both_fetched_text, until_second_fetched};
+ghost use Rattle.bus_rows.specs.CoherentLists.{second_fetched, second_fetched_text, fetched_at_two_moments, both_seen, both_published, fetched_too_few, fetched_alone, published_first};
+ghost use Rattle.bus_rows.specs.CoherentLists.{published_none, published_crossed, published_alone, publication_too_short, marks_past_the_list, foreign_list, list_of_writes};
 ghost use Rattle.bus_rows.specs.AreaHeld.{two_counters, two_cores, both_counted, both_counted_text, while_held, second_enters};
 ghost use Rattle.bus_rows.specs.OutsideCall.{outside_caller, server_task, asks_and_results, served_once, served_once_text, asked_once, second_accepted, until_served, results_crossed};
 ghost use Rattle.bus_rows.specs.DirectCall.{direct_server, caller_task, served_within, served_within_text, until_returned, answered_early, until_ended, answered_wrongly};
 ghost use Rattle.bus_rows.specs.QueuedCalls.{two_clients, clients_and_server, served_in_turn, served_in_turn_text, until_both_asked, later_first, heard_early, until_second_served, told_early};
-ghost use Rattle.bus_rows.specs.ModeSwitch.{one_machine, three_cores, switch_and_run, switched, switched_text, switched_text_by_names, until_exit, transition_early, until_closed, disabled_admitted, until_settled, disabled_remembered};
+ghost use Rattle.bus_rows.specs.ModeSwitch.{one_machine, three_cores, switch_and_run, switched, switched_text, switched_text_by_names, until_exit, transition_early, until_closed};
+ghost use Rattle.bus_rows.specs.ModeSwitch.{disabled_admitted, until_settled, disabled_remembered};
 ghost use Rattle.bus_rows.specs.TwoMachines.{two_machines, observer_task, two_switches, both_switched, both_switched_text, until_second_stable, stable_early, until_first_seen, machines_crossed};
 ghost use Rattle.bus_rows.specs.WaitingSwitch.{waiting, not_waiting, user_and_boss_tasks, run_and_ticks, waited, waited_text, until_last_write, went_on, went_on_text, until_first_write, exit_early};
 ghost use Rattle.bus_rows.specs.AcknowledgedSwitch.{one_provider, provider_task, only_run, acknowledged, acknowledged_text, until_full, switch_accepted, acknowledged_early, begun_again};

@@ -2,8 +2,7 @@
 
 ghost use Rattle.std.specs.Prelude.{◌≡◌, [], ◌∷◌, codes, Some, None};
 ghost use Rattle.bus_semantics.specs.declared.script.Mapping.{Mapping};
-ghost use Rattle.bus_semantics.specs.Plan.{Plan};
-ghost use Rattle.bus_semantics.specs.Sound.{IsSound, WaitOrder};
+ghost use Rattle.bus_semantics.specs.Common.{Plan, IsSound, WaitOrder};
 ghost use Rattle.bus_rows.specs.SoundFacts.{NamesDistinct, PortsTogether, PointsFit, AccessesSound, AreasRise, ListsSound, BundlesFit, broken_facts, LacksOnly, LacksOrder};
 ghost use Rattle.bus_rows.specs.AreaHeld.{two_cores};
 ghost use Rattle.bus_rows.specs.OneWriter.{one_task};

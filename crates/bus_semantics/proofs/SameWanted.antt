@@ -1,10 +1,9 @@
 -- What the comparison of two wishes tells.
 use Rattle.std.proofs.Common.{◌≡◌, ℕ, ℤ, true, ◌&&◌, ◌==◌, List, refl, ◌∙◌, ap, subst}
 use Rattle.std.specs.Bool.{Decides}
-use Rattle.std.proofs.lemmas.Bool.{and_parts, and_from, eqb-true, eq-eqb, false≢true}
-use Rattle.rte_value.specs.EqualValues.{same_words-Decides}
-use Rattle.rte_value.specs.Values.{same_words}
-use Rattle.bus_semantics.specs.Wanted.{Wanted, to_tick, to_start, to_admit, to_fetch, to_write, to_read, to_invalidate, to_see_updated, to_send, to_receive, to_ask, to_hear, to_take_result, to_return, to_enter, to_leave, to_switch, to_see_mode, to_move_on, to_publish, to_fetch_all, to_publish_all, to_end, same_wanted}
+use Rattle.bus_semantics.specs.Common.{and_parts, and_from, eqb-true, eq-eqb, false≢true, same_words-Decides, same_words, Wanted, to_tick, to_start, to_admit, to_fetch, to_write, to_read}
+use Rattle.bus_semantics.specs.Common.{to_invalidate, to_see_updated, to_send, to_receive, to_ask, to_hear, to_take_result, to_return, to_enter, to_leave, to_switch, to_see_mode, to_move_on}
+use Rattle.bus_semantics.specs.Common.{to_publish, to_fetch_all, to_publish_all, to_end, same_wanted}
 
 same_value : (a b : ℕ) (v w : List ℤ) (f : ℕ → List ℤ → Wanted) → ((a == b) && same_words v w) ≡ true → f a v ≡ f b w
 same_value a b v w f e =

@@ -40,3 +40,4 @@ pub mod SoundPrograms
 pub mod SoundEvents
 pub mod SoundLists
 pub mod Sound
+pub mod Common

@@ -1,18 +1,11 @@
 -- What a start answers.
 use Rattle.std.proofs.Common.{◌≡◌, ℕ, ℤ, true, false, refl, sym, ◌∙◌, ap, subst, List, [], Option, Some, None, is_some}
 use Rattle.std.specs.Prelude.{option_map, unwrap_or}
-use Rattle.std.specs.List.{list_all}
-use Rattle.std.proofs.lemmas.Bool.{false≢true}
-use Rattle.rte_value.specs.declared.value.Value.{Value}
-use Rattle.rte_value.specs.Values.{words_of}
+use Rattle.bus_semantics.specs.Common.{list_all, false≢true, Value, words_of, Plan, kind_of, to_start, start_fits}
 use Rattle.bus_semantics.specs.declared.plan.EventKind.{EventKind}
 use Rattle.bus_semantics.specs.declared.entries.Actor.{Actor}
 use Rattle.bus_semantics.specs.declared.entries.Deed.TheVariants as deed
-use Rattle.bus_semantics.specs.Plan.{Plan, kind_of}
-use Rattle.bus_semantics.specs.Wanted.{to_start}
-use Rattle.bus_semantics.specs.Fitting.{start_fits}
-use Rattle.object_kinds.specs.Kinds.{IsHeldBy, IsMadeBy}
-use Rattle.object_kinds.specs.Layout.{place}
+use Rattle.object_kinds.specs.Common.{IsHeldBy, IsMadeBy, place}
 use Rattle.object_kinds.proofs.Events.{events_all}
 use Rattle.object_kinds.proofs.Lists.{all_at}
 use Rattle.object_kinds.proofs.Placing.{place_at}

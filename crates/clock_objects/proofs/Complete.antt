@@ -1,26 +1,14 @@
 -- The clock misses no entry that may come.
 use Rattle.std.proofs.Common.{◌≡◌, ℕ, true, refl, sym, ◌∙◌, ap, Option, Some, None, is_some}
 use Rattle.std.specs.Prelude.{option_map}
-use Rattle.std.specs.List.{slice_get}
-use Rattle.rte_value.specs.declared.value.Value.{Value}
+use Rattle.bus_semantics.specs.Common.{slice_get, Value, Plan, kind_of, to_start, Noted, Past, wish_fits, is_due, is_due_kind, Answers, is_proper, Follows, IsSound}
 use Rattle.bus_semantics.specs.declared.script.Mapping.{Mapping}
 use Rattle.bus_semantics.specs.declared.entries.Actor.{Actor}
 use Rattle.bus_semantics.specs.declared.entries.Actor.TheVariants.{Env}
 use Rattle.bus_semantics.specs.declared.entries.Deed.{Deed}
 use Rattle.bus_semantics.specs.declared.entries.Deed.TheVariants as deed
-use Rattle.bus_semantics.specs.Plan.{Plan, kind_of}
-use Rattle.bus_semantics.specs.Wanted.{to_start}
-use Rattle.bus_semantics.specs.History.{Noted, Past}
-use Rattle.bus_semantics.specs.Fitting.{wish_fits}
-use Rattle.bus_semantics.specs.Due.{is_due, is_due_kind}
-use Rattle.bus_semantics.specs.Legal.{Answers}
-use Rattle.bus_semantics.specs.Locality.{is_proper}
-use Rattle.bus_semantics.specs.Pasts.{Follows}
-use Rattle.bus_semantics.specs.Sound.{IsSound}
 use Rattle.tick_events.specs.Kept as clock_kept
-use Rattle.object_kinds.specs.Flags.{is_set}
-use Rattle.object_kinds.specs.Kinds.{StandsFor}
-use Rattle.object_kinds.specs.Layout.{place}
+use Rattle.object_kinds.specs.Common.{is_set, StandsFor, place}
 use Rattle.object_kinds.proofs.Classes.{On}
 use Rattle.object_kinds.proofs.Events.{started_placed}
 use Rattle.object_kinds.proofs.Flags.{flag_there}

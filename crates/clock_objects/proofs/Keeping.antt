@@ -1,18 +1,10 @@
 -- What the clock keeps after an entry is what the definitions give from the past and the entry.
 use Rattle.std.proofs.Common.{◌≡◌, ℕ, suc, ◌%◌, true, false, ◌&&◌, ◌||◌, not, ◌==◌, refl, sym, ◌∙◌, ap, subst, ◌∷◌, map, Option, Some, set}
-use Rattle.std.specs.List.{list_all, list_any, slice_get}
-use Rattle.std.specs.Option.{option_map_or}
-use Rattle.std.proofs.lemmas.Bool.{eq-eqb}
+use Rattle.bus_semantics.specs.Common.{list_all, list_any, slice_get, option_map_or, eq-eqb, Value, Plan, kind_of, Past, is_start_by, follows_last, ticks, ticks_period, is_distinct}
 use Rattle.std.proofs.Math.Nat.{suc-mod}
 use mathlib.Core.List.{map-map}
-use Rattle.rte_value.specs.declared.value.Value.{Value}
 use Rattle.bus_semantics.specs.declared.entries.Actor.{Actor}
 use Rattle.bus_semantics.specs.declared.entries.Deed.TheVariants as deed
-use Rattle.bus_semantics.specs.Plan.{Plan, kind_of}
-use Rattle.bus_semantics.specs.History.{Past}
-use Rattle.bus_semantics.specs.Owed.{is_start_by}
-use Rattle.bus_semantics.specs.Due.{follows_last, ticks, ticks_period}
-use Rattle.bus_semantics.specs.SoundPlan.{is_distinct}
 use Rattle.tick_events.specs.Kept as clock_kept
 use Rattle.object_kinds.specs.Layout.{place}
 use Rattle.object_kinds.proofs.Events.{events_all, events_once}

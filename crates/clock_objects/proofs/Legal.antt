@@ -1,28 +1,15 @@
 -- An entry by which the clock leads on may follow its past, and what the clock keeps then is what the definitions give.
 use Rattle.std.proofs.Common.{◌≡◌, ℕ, ℤ, true, ◌||◌, refl, sym, ◌∙◌, ap, subst, List, ◌∷◌, Option, Some, None}
 use Rattle.std.specs.Prelude.{option_map}
-use Rattle.std.specs.List.{slice_get}
-use Rattle.std.proofs.lemmas.Bool.{false≢true, or_right}
-use Rattle.std.proofs.lemmas.Option.{same_Some}
-use Rattle.rte_value.specs.declared.value.Value.{Value}
-use Rattle.rte_value.specs.Values.{words_of}
+use Rattle.bus_semantics.specs.Common.{slice_get, false≢true, or_right, same_Some, Value, words_of, Plan, kind_of, Noted, Past, touches, start_fits, starts_request, is_proper, start_matches}
+use Rattle.bus_semantics.specs.Common.{Follows}
 use Rattle.bus_semantics.specs.declared.plan.EventKind.{EventKind}
 use Rattle.bus_semantics.specs.declared.plan.EventKind.TheVariants.{Timing, Init}
 use Rattle.bus_semantics.specs.declared.entries.Actor.{Actor}
 use Rattle.bus_semantics.specs.declared.entries.Deed.{Deed}
 use Rattle.bus_semantics.specs.declared.entries.Deed.TheVariants as deed
-use Rattle.bus_semantics.specs.Plan.{Plan, kind_of}
-use Rattle.bus_semantics.specs.History.{Noted, Past}
-use Rattle.bus_semantics.specs.Objects.{touches}
-use Rattle.bus_semantics.specs.Fitting.{start_fits}
-use Rattle.bus_semantics.specs.Calls.{starts_request}
-use Rattle.bus_semantics.specs.Locality.{is_proper}
-use Rattle.bus_semantics.specs.Matching.{start_matches}
-use Rattle.bus_semantics.specs.Pasts.{Follows}
 use Rattle.tick_events.specs.Kept as clock_kept
-use Rattle.object_kinds.specs.Flags.{is_set}
-use Rattle.object_kinds.specs.Kinds.{StandsFor}
-use Rattle.object_kinds.specs.Layout.{place}
+use Rattle.object_kinds.specs.Common.{is_set, StandsFor, place}
 use Rattle.object_kinds.proofs.Flags.{flag_set}
 use Rattle.object_kinds.proofs.Lists.{mapped_at}
 use Rattle.object_kinds.proofs.Options.{given_some, mapped_some}

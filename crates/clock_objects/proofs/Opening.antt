@@ -1,21 +1,15 @@
 -- What the clock keeps at first stands for no entry, and is of its plan.
 use Rattle.std.proofs.Common.{◌≡◌, ◌≤◌, ℕ, zero, suc, ◌<◌, ◌%◌, Bool, true, false, refl, sym, ◌∙◌, ap, subst, arith, List, [], ◌∷◌, length, map}
 use Rattle.std.specs.Prelude.{All, replicate, slice_index_or}
-use Rattle.std.specs.List.{list_all, slice_get}
-use Rattle.std.specs.Option.{option_map_or}
+use Rattle.bus_semantics.specs.Common.{list_all, slice_get, option_map_or, and_parts, false≢true, nat_tests, length-map, length-replicate, Plan, kind_of, clock}
 use Rattle.std.proofs.Math.Nat.{zero-mod}
-use Rattle.std.proofs.lemmas.Bool.{and_parts, false≢true}
-use Rattle.std.proofs.lemmas.Bool.Decides.{nat_tests}
-use Rattle.std.proofs.lemmas.List.{length-map, length-replicate, map-id}
+use Rattle.std.proofs.lemmas.List.{map-id}
 use mathlib.Core.List.{map-map}
 use Rattle.bus_semantics.specs.declared.plan.EventPlan.{EventPlan}
 use Rattle.bus_semantics.specs.declared.plan.EventKind.{EventKind}
 use Rattle.bus_semantics.specs.declared.plan.EventKind.TheVariants.{Timing, Init}
-use Rattle.bus_semantics.specs.Plan.{Plan, kind_of}
-use Rattle.bus_semantics.specs.Objects.{clock}
 use Rattle.tick_events.specs.Kept.{Timer, fresh_timer}
-use Rattle.object_kinds.specs.Layout.{events_of}
-use Rattle.object_kinds.specs.Rising.{is_rising}
+use Rattle.object_kinds.specs.Common.{events_of, is_rising}
 use Rattle.object_kinds.proofs.Events.{events_all, events_rise}
 use Rattle.object_kinds.proofs.Lists.{filled_all, map_all}
 use Rattle.clock_objects.specs.Layout.{has_period, have_periods, is_timing, is_init, period_in}

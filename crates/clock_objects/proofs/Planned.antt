@@ -1,13 +1,10 @@
 -- A tick and a start leave the clock that of its plan.
 use Rattle.std.proofs.Common.{◌≡◌, ℕ, zero, suc, false, refl, sym, ◌∙◌, ap, subst, List, [], ◌∷◌, length, map, set, Option, Some, None, length-set}
 use Rattle.std.specs.Prelude.{unwrap_or, option_map}
-use Rattle.std.specs.List.{slice_get}
-use Rattle.std.specs.Option.{option_map_or}
-use Rattle.bus_semantics.specs.Plan.{Plan}
+use Rattle.bus_semantics.specs.Common.{slice_get, option_map_or, Plan}
 use Rattle.tick_events.specs.Kept.{Timer, after_init, after_timing, started, ticked}
 use Rattle.tick_events.specs.Kept as clock_kept
-use Rattle.object_kinds.specs.Flags.{is_set}
-use Rattle.object_kinds.specs.Layout.{place}
+use Rattle.object_kinds.specs.Common.{is_set, place}
 use Rattle.object_kinds.proofs.Options.{given_some}
 use Rattle.clock_objects.specs.Kept.{Kept, is_timer_due}
 use Rattle.clock_objects.specs.Leading.{after_start, after_tick, lead_of_start, with_clock}

@@ -1,16 +1,11 @@
 -- Starts that the clock does not allow, and entries that make none come.
 use Rattle.std.proofs.Common.{◌≡◌, ℕ, zero, suc, Bool, true, false, refl, sym, ap, subst, List, [], ◌∷◌, set, Option, Some, None}
 use Rattle.std.specs.Prelude.{option_map, unwrap_or}
-use Rattle.std.specs.List.{slice_get}
-use Rattle.std.specs.Option.{option_map_or}
-use Rattle.std.proofs.lemmas.Bool.{false≢true}
+use Rattle.bus_semantics.specs.Common.{slice_get, option_map_or, false≢true, Noted, to_start, wanted_by}
 use Rattle.bus_semantics.specs.declared.entries.Deed.{Deed}
 use Rattle.bus_semantics.specs.declared.entries.Deed.TheVariants as deed
-use Rattle.bus_semantics.specs.History.{Noted}
-use Rattle.bus_semantics.specs.Wanted.{to_start, wanted_by}
 use Rattle.tick_events.specs.Kept as clock_kept
-use Rattle.object_kinds.specs.Flags.{given, is_set}
-use Rattle.object_kinds.specs.Layout.{place}
+use Rattle.object_kinds.specs.Common.{given, is_set, place}
 use Rattle.object_kinds.proofs.Options.{given_some, mapped_some}
 use Rattle.clock_objects.specs.Kept.{Kept, is_pending_at, is_timer_due, may_start}
 use Rattle.clock_objects.specs.Leading.{after_start, lead, lead_of_clock, lead_of_start, wakes, with_clock}

@@ -1,8 +1,7 @@
 -- A start that is taken from the clock leaves what the lead gives, and one that is not pending changes nothing.
 use Rattle.std.proofs.Common.{◌≡◌, ℕ, Bool, true, false, refl, sym, ◌∙◌, ap, Option, Some, None}
 use Rattle.std.specs.Prelude.{set, option_map, unwrap_or}
-use Rattle.std.specs.List.{slice_get}
-use Rattle.std.specs.Option.{option_map_or}
+use Rattle.bus_semantics.specs.Common.{slice_get, option_map_or}
 use Rattle.tick_events.specs.Kept.{Timer, after_init, after_timing, is_due, started}
 use Rattle.tick_events.specs.Kept as clock_kept
 use Rattle.object_kinds.specs.Layout.{place}

@@ -1,13 +1,10 @@
 -- What a tick tells: the events that it made pending, and no others.
 use Rattle.std.proofs.Common.{◌≡◌, ℕ, zero, suc, Bool, true, false, refl, sym, ◌∙◌, ap, subst, List, [], ◌∷◌, map, Option, Some, None}
 use Rattle.std.specs.Prelude.{option_map}
-use Rattle.std.specs.List.{Contains, slice_get}
-use Rattle.std.proofs.lemmas.Bool.{false≢true}
-use Rattle.std.proofs.lemmas.Option.{get_or_from_slice_get, slice_get_within}
+use Rattle.bus_semantics.specs.Common.{Contains, slice_get, false≢true, get_or_from_slice_get, slice_get_within}
 use Rattle.tick_events.specs.Kept.{IsRung, Timer, after_tick, is_due, ticked}
 use Rattle.tick_events.specs.Kept as clock_kept
-use Rattle.object_kinds.specs.Layout.{place}
-use Rattle.object_kinds.specs.Rising.{is_rising}
+use Rattle.object_kinds.specs.Common.{place, is_rising}
 use Rattle.object_kinds.proofs.Placing.{place_at}
 use Rattle.object_kinds.proofs.Rising.{place_found, rising_pairs}
 use Rattle.clock_objects.specs.Kept.{Kept, is_pending_at, is_timer_due, may_start}

@@ -1,14 +1,10 @@
 -- The kinds of events that wait for the clock, and when they are due.
 use Rattle.std.proofs.Common.{◌≡◌, ℕ, Bool, true, false, ◌==◌, ◌||◌, refl, ◌∙◌, ap}
-use Rattle.std.proofs.lemmas.Bool.{eqb-true, false≢true}
+use Rattle.bus_semantics.specs.Common.{eqb-true, false≢true, Plan, kind_of, Past, is_start_by, follows_last, ticks_period, never_started, is_due_kind}
 use Rattle.bus_semantics.specs.declared.plan.EventKind.{EventKind}
 use Rattle.bus_semantics.specs.declared.plan.EventKind.TheVariants.{Timing, Init}
 use Rattle.bus_semantics.specs.declared.entries.Actor.{Actor}
 use Rattle.bus_semantics.specs.declared.entries.Actor.TheVariants.{Env}
-use Rattle.bus_semantics.specs.Plan.{Plan, kind_of}
-use Rattle.bus_semantics.specs.History.{Past}
-use Rattle.bus_semantics.specs.Owed.{is_start_by}
-use Rattle.bus_semantics.specs.Due.{follows_last, ticks_period, never_started, is_due_kind}
 use Rattle.object_kinds.proofs.Options.{clash}
 use Rattle.clock_objects.specs.Layout.{is_timing, is_init}
 use Rattle.clock_objects.specs.Standing.{due_after}

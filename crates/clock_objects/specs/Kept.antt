@@ -2,8 +2,7 @@
 use Rattle.std.specs.Prelude.{ℕ, List, length, map, Bool, false, Option, Some, None}
 use Rattle.bus_semantics.specs.Plan.{Plan, kind_of}
 use Rattle.tick_events.specs.Kept as clock
-use Rattle.object_kinds.specs.Layout.{events_of, place}
-use Rattle.object_kinds.specs.Flags.{is_set}
+use Rattle.object_kinds.specs.Common.{events_of, place, is_set}
 use Rattle.clock_objects.specs.Layout.{is_timing, is_init, period_in}
 
 -- the plan's TimingEvents and InitEvents, each in rising order, and what is kept of them

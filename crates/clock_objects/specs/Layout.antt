@@ -1,10 +1,9 @@
 -- What of a plan belongs to the clock: the events that time and the beginning make pending.
 use Rattle.std.specs.Prelude.{ℕ, Bool, true, false, nat_le}
-use Rattle.std.specs.List.{list_all}
+use Rattle.bus_semantics.specs.Common.{list_all, Plan}
 use Rattle.bus_semantics.specs.declared.plan.EventKind.{EventKind}
 use Rattle.bus_semantics.specs.declared.plan.EventKind.TheVariants.{Timing, Init}
 use Rattle.bus_semantics.specs.declared.plan.EventPlan.{EventPlan}
-use Rattle.bus_semantics.specs.Plan.{Plan}
 
 abbrev pub is_timing : EventKind → Bool
 is_timing (Timing period) = true

@@ -3,13 +3,11 @@
 use Rattle.std.specs.Prelude.{ℕ, List, Bool, true, false, Option, Some, None, option_map}
 use Rattle.bus_semantics.specs.declared.entries.Deed.{Deed}
 use Rattle.bus_semantics.specs.declared.entries.Deed.TheVariants as deed
-use Rattle.bus_semantics.specs.History.{Noted}
-use Rattle.bus_semantics.specs.Wanted.{Wanted, to_start}
+use Rattle.bus_semantics.specs.Common.{Noted, Wanted, to_start}
 use Rattle.tick_events.specs.Kept as clock_kept
 use Rattle.object_kinds.specs.declared.acted.Shown.{Shown}
 use Rattle.object_kinds.specs.declared.acted.Shown.TheVariants.{NotDue, Unmatched}
-use Rattle.object_kinds.specs.Layout.{place}
-use Rattle.object_kinds.specs.Flags.{given, is_set}
+use Rattle.object_kinds.specs.Common.{place, given, is_set}
 use Rattle.clock_objects.specs.Kept.{Kept, is_timer_due}
 
 -- a start by a TimingEvent, else by an InitEvent

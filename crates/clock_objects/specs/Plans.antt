@@ -1,7 +1,6 @@
 -- The clock as it is of a plan: all in it that no call changes.
 use Rattle.std.specs.Prelude.{◌≡◌, ℕ, map, length}
-use Rattle.bus_semantics.specs.Plan.{Plan, kind_of}
-use Rattle.bus_semantics.specs.Objects.{clock}
+use Rattle.bus_semantics.specs.Common.{Plan, kind_of, clock}
 use Rattle.tick_events.specs.Kept.{Timer}
 use Rattle.object_kinds.specs.Layout.{events_of}
 use Rattle.clock_objects.specs.Layout.{is_timing, is_init, period_in}

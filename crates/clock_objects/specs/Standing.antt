@@ -1,10 +1,7 @@
 -- What the clock keeps, as the definitions give it from a past of the clock.
 use Rattle.std.specs.Prelude.{◌≡◌, ℕ, ◌%◌, map, Bool}
 use Rattle.bus_semantics.specs.declared.entries.Actor.TheVariants.{Env}
-use Rattle.bus_semantics.specs.Plan.{Plan, kind_of}
-use Rattle.bus_semantics.specs.History.{Past}
-use Rattle.bus_semantics.specs.Objects.{clock}
-use Rattle.bus_semantics.specs.Due.{ticks, is_due}
+use Rattle.bus_semantics.specs.Common.{Plan, kind_of, Past, clock, ticks, is_due}
 use Rattle.tick_events.specs.Kept as clock_kept
 use Rattle.object_kinds.specs.Layout.{events_of}
 use Rattle.clock_objects.specs.Layout.{is_timing, is_init, period_in}

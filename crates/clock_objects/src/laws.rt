@@ -2,9 +2,7 @@
 
 ghost use Rattle.std.specs.Prelude.{◌≡◌, ℕ, []};
 ghost use Rattle.bus_semantics.specs.declared.script.Mapping.{Mapping};
-ghost use Rattle.bus_semantics.specs.Plan.{Plan};
-ghost use Rattle.bus_semantics.specs.Objects.{clock};
-ghost use Rattle.bus_semantics.specs.Sound.{IsSound};
+ghost use Rattle.bus_semantics.specs.Common.{Plan, clock, IsSound};
 ghost use Rattle.object_kinds.specs.Kinds.{LeadsFollow, LeadsKeep, MissesNothing, StartsByFlag, OthersWakeNothing};
 ghost use Rattle.clock_objects.specs.Kept.{opening, may_start};
 ghost use Rattle.clock_objects.specs.Leading.{lead, wakes};

@@ -1,8 +1,7 @@
 //! The clock of a plan, made.
 
 ghost use Rattle.std.specs.Prelude.{◌≡◌, ◌<◌, ◌^◌, length, true, IfOk};
-ghost use Rattle.bus_semantics.specs.Plan.{plan_of};
-ghost use Rattle.bus_semantics.specs.Objects.{clock};
+ghost use Rattle.bus_semantics.specs.Common.{plan_of, clock};
 ghost use Rattle.clock_objects.specs.Kept.{opening};
 ghost use Rattle.clock_objects.specs.Layout.{have_periods};
 ghost use Rattle.clock_objects.specs.Plans.{IsOfPlan};

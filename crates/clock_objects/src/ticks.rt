@@ -1,9 +1,7 @@
 //! The clock with the plan's events that wait for it.
 
 ghost use Rattle.std.specs.Prelude.{◌≡◌, ℕ, true, false, is_some, unwrap_or};
-ghost use Rattle.std.specs.List.{Contains};
-ghost use Rattle.bus_semantics.specs.Plan.{Plan};
-ghost use Rattle.bus_semantics.specs.Wanted.{to_start, to_tick, wanted_of};
+ghost use Rattle.bus_semantics.specs.Common.{Contains, Plan, to_start, to_tick, wanted_of};
 ghost use Rattle.object_kinds.specs.declared.acted.Shown.{Shown};
 ghost use Rattle.object_kinds.specs.declared.acted.Acted.TheVariants.{NotYet};
 ghost use Rattle.object_kinds.specs.Kinds.{IsAnswerOf};

@@ -4,17 +4,15 @@ use Rattle.std.proofs.Common.{◌≡◌, ℕ, ◌+◌, ◌≤◌, List, [], ◌�
 use Rattle.rte_text.specs.declared.refusal.Refused.{Refused}
 use Rattle.rte_text.specs.declared.refusal.Refused.TheVariants.{Memory, Rule}
 use Rattle.bus_semantics.specs.declared.script.Line.{Line}
-use Rattle.bus_semantics.specs.Plan.{Plan, plan_of}
-use Rattle.bus_semantics.specs.Spelling.{Letters}
+use Rattle.bus_semantics.specs.Common.{Plan, plan_of, Letters}
 use Rattle.trace_reading.specs.declared.checked.Checked.TheVariants.{Legal}
 use Rattle.description_stages.specs.declared.planning.PlannedDescription.{PlannedDescription}
 use Rattle.description_stages.specs.Plans.{IsPlanRefusalOf, IsPlannedOf}
 use Rattle.plan_text.specs.Lines.{plan_text}
-use Rattle.script_reading.specs.Meaning.{Saying, saying}
+use Rattle.script_reading.specs.Common.{Saying, saying, bad_or, cause_of, first_bad}
 use Rattle.feed_queue.specs.Reading.{has_stopped}
 use Rattle.feed_queue.specs.Reading.{cause_of as cause_of_stimulus, first_bad as first_bad_stimulus}
 use Rattle.script_reading.specs.Meaning.{no_form}
-use Rattle.script_reading.specs.Reading.{bad_or, cause_of, first_bad}
 use Rattle.line_fields.specs.Texts.{lines_of, onto_first}
 use Rattle.commands.specs.declared.status.Status.{Status}
 use Rattle.commands.specs.declared.status.Status.TheVariants as status

@@ -1,8 +1,7 @@
 -- The plan of a description is sound with a mapping, and 32 bits number its elements and its mode elements.
 use Rattle.std.proofs.Common.{ℕ, List}
 use Rattle.bus_semantics.specs.declared.script.Mapping.{Mapping}
-use Rattle.bus_semantics.specs.Plan.{plan_of}
-use Rattle.bus_semantics.specs.Sound.{IsSound}
+use Rattle.bus_semantics.specs.Common.{plan_of, IsSound}
 use Rattle.event_mapping.proofs.FewNumbers.{few_numbers, keeps_size}
 use Rattle.description_stages.specs.declared.planning.PlannedDescription.{PlannedDescription}
 use Rattle.description_stages.specs.Plans.{IsPlannedOf}

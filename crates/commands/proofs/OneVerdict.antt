@@ -4,8 +4,7 @@ use Rattle.std.proofs.lemmas.Option.{some_pair_parts}
 use Rattle.rte_text.specs.declared.refusal.Refusal.{Refusal}
 use Rattle.rte_text.specs.declared.refusal.Refused.TheVariants.{Rule}
 use Rattle.bus_semantics.specs.declared.script.Mapping.{Mapping}
-use Rattle.bus_semantics.specs.Plan.{Plan, plan_of}
-use Rattle.bus_semantics.specs.Sound.{IsSound}
+use Rattle.bus_semantics.specs.Common.{Plan, plan_of, IsSound}
 use Rattle.trace_reading.specs.declared.checked.Checked.{Checked}
 use Rattle.trace_reading.specs.declared.checked.Checked.TheVariants.{Legal}
 use Rattle.trace_reading.specs.Verdicts.{IsVerdict}
@@ -16,8 +15,7 @@ use Rattle.feed_queue.specs.Reading.{first_bad as bad_stimulus}
 use Rattle.line_fields.specs.Texts.{lines_of}
 use Rattle.pair_run.specs.Linked.{links_of}
 use Rattle.description_stages.specs.Same.{IsSamePlan}
-use Rattle.script_reading.specs.Meaning.{saying}
-use Rattle.script_reading.specs.Reading.{IsScript, first_bad}
+use Rattle.script_reading.specs.Common.{saying, IsScript, first_bad}
 use Rattle.commands.specs.declared.stop.Finding.{Finding}
 use Rattle.commands.specs.declared.stop.Finding.TheVariants as finding
 use Rattle.commands.specs.CheckCommand.{IsCheckedAs, IsCheckFinding}

@@ -4,18 +4,14 @@ use Rattle.bus_semantics.specs.declared.script.Line.{Line}
 use Rattle.bus_semantics.specs.declared.script.Line.TheVariants as line
 use Rattle.bus_semantics.specs.declared.script.Mapping.{Mapping}
 use Rattle.bus_semantics.specs.declared.version.Version.{Version}
-use Rattle.bus_semantics.specs.Plan.{Plan}
-use Rattle.bus_semantics.specs.Wanted.{to_tick}
-use Rattle.bus_semantics.specs.Run.{Item, made, run_begins, run_closes, Session, Ordered, IsSessionOf, IsBeginningOf, orders_of_line, orders_of_script}
+use Rattle.bus_semantics.specs.Common.{Plan, to_tick, Item, made, run_begins, run_closes, Session, Ordered, IsSessionOf, IsBeginningOf, orders_of_line, orders_of_script, Letters}
 use Rattle.bus_semantics.specs.Run as run
-use Rattle.bus_semantics.specs.Spelling.{Letters}
 use Rattle.trace_reading.specs.declared.checked.Checked.{Checked}
 use Rattle.trace_reading.specs.declared.checked.Checked.TheVariants.{Legal, BadLine, Illegal}
 use Rattle.trace_reading.specs.Refusals.{IsRefused}
 use Rattle.trace_reading.specs.Verdicts.{IsVerdict, GoesOn}
-use Rattle.script_reading.specs.Meaning.{Asked, asked_of}
+use Rattle.script_reading.specs.Common.{Asked, asked_of, IsScript}
 use Rattle.script_reading.specs.Meaning as asked
-use Rattle.script_reading.specs.Reading.{IsScript}
 
 -- ---- what is asked for
 

@@ -5,8 +5,7 @@ use Rattle.bus_semantics.specs.Plan.{plan_of}
 use Rattle.description_stages.specs.declared.planning.PlannedDescription.{PlannedDescription}
 use Rattle.description_stages.specs.Plans.{IsPlannedOf}
 use Rattle.line_fields.specs.Texts.{lines_of}
-use Rattle.script_reading.specs.Meaning.{saying}
-use Rattle.script_reading.specs.Reading.{IsScript, first_bad}
+use Rattle.script_reading.specs.Common.{saying, IsScript, first_bad}
 use Rattle.commands.specs.Commands.{Bytes}
 
 -- a description and a script over its plan

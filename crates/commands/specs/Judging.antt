@@ -8,8 +8,7 @@ use Rattle.bus_semantics.specs.Plan.{Plan}
 use Rattle.trace_reading.specs.declared.checked.Checked.TheVariants.{Legal}
 use Rattle.trace_reading.specs.Verdicts.{IsVerdict}
 use Rattle.line_fields.specs.Texts.{lines_of}
-use Rattle.script_reading.specs.Meaning.{saying}
-use Rattle.script_reading.specs.Reading.{first_bad}
+use Rattle.script_reading.specs.Common.{saying, first_bad}
 use Rattle.commands.specs.declared.stop.Finding.{Finding}
 use Rattle.commands.specs.declared.stop.Finding.TheVariants as finding
 use Rattle.commands.specs.declared.stop.Stop.{Stop}

@@ -1,15 +1,10 @@
 -- What `live C` finds and puts: a node of the description C that runs while stimuli arrive, which stand in the file `-`, and then a run line.
 use Rattle.std.specs.Prelude.{◌≡◌, ◌<◌, ◌≤◌, ℕ, List, [], ◌∷◌, Some, true}
-use Rattle.std.specs.List.{list_all}
+use Rattle.bus_semantics.specs.Common.{list_all, stamps_count, IsLegal, Plan, plan_of, item_fits, Session, IsSessionOf, IsBeginningOf}
 use Rattle.rte_text.specs.declared.refusal.Refused.TheVariants.{Rule}
 use Rattle.bus_semantics.specs.declared.entries.Stamped.{Stamped}
 use Rattle.bus_semantics.specs.declared.script.Line.TheVariants as line
 use Rattle.bus_semantics.specs.declared.script.Mapping.{Mapping}
-use Rattle.bus_semantics.specs.Interleaving.{stamps_count}
-use Rattle.bus_semantics.specs.Legal.{IsLegal}
-use Rattle.bus_semantics.specs.Plan.{Plan, plan_of}
-use Rattle.bus_semantics.specs.Reading.{item_fits}
-use Rattle.bus_semantics.specs.Run.{Session, IsSessionOf, IsBeginningOf}
 use Rattle.core_lanes.specs.After.{after}
 use Rattle.description_stages.specs.declared.planning.PlannedDescription.{PlannedDescription}
 use Rattle.description_stages.specs.Plans.{IsPlanRefusalOf, IsPlannedOf}

@@ -1,19 +1,14 @@
 -- What `pair C1 C2 S` finds and puts: a run of the script S on two nodes, of the descriptions C1 and C2, which a link of bytes joins.
 use Rattle.std.specs.Prelude.{◌≡◌, ◌⊎◌, ◌<◌, ℕ, List, [], length, Some, true}
-use Rattle.std.specs.List.{list_all}
+use Rattle.bus_semantics.specs.Common.{list_all, Plan, plan_of, item_fits, Letters}
 use Rattle.rte_text.specs.declared.refusal.Refusal.{Refusal}
 use Rattle.rte_text.specs.declared.refusal.Refused.TheVariants.{Rule}
 use Rattle.bus_semantics.specs.declared.script.Line.{Line}
 use Rattle.bus_semantics.specs.declared.script.Mapping.{Mapping}
-use Rattle.bus_semantics.specs.Plan.{Plan, plan_of}
-use Rattle.bus_semantics.specs.Reading.{item_fits}
-use Rattle.bus_semantics.specs.Spelling.{Letters}
 use Rattle.description_stages.specs.declared.planning.PlannedDescription.{PlannedDescription}
 use Rattle.description_stages.specs.Plans.{IsPlanRefusalOf, IsPlannedOf}
 use Rattle.line_fields.specs.Texts.{lines_of}
-use Rattle.script_reading.specs.Meaning.{Saying}
-use Rattle.script_reading.specs.Reading.{IsScriptBy, first_bad}
-use Rattle.script_reading.specs.Reserved.{saying_around}
+use Rattle.script_reading.specs.Common.{Saying, IsScriptBy, first_bad, saying_around}
 use Rattle.script_run.specs.Quieting.{IdlesAreQuiet}
 use Rattle.pair_run.specs.Joint.{Joint, joint_text, one, two, side_of}
 use Rattle.pair_run.specs.Linked.{linked_in, links_of}

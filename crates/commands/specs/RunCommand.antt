@@ -1,14 +1,10 @@
 -- What `run C S` finds and puts: a run of the script S on the bus of the description C.
 use Rattle.std.specs.Prelude.{◌≡◌, List, [], true}
-use Rattle.std.specs.List.{list_all}
+use Rattle.bus_semantics.specs.Common.{list_all, Plan, plan_of, item_fits, Session, IsRunOf, IsBegunRunOf, Spells}
 use Rattle.rte_text.specs.declared.refusal.Refused.TheVariants.{Rule}
 use Rattle.bus_semantics.specs.declared.script.Line.{Line}
 use Rattle.bus_semantics.specs.declared.script.Mapping.{Mapping}
 use Rattle.bus_semantics.specs.declared.version.Version.TheVariants.{Two}
-use Rattle.bus_semantics.specs.Plan.{Plan, plan_of}
-use Rattle.bus_semantics.specs.Reading.{item_fits}
-use Rattle.bus_semantics.specs.Run.{Session, IsRunOf, IsBegunRunOf}
-use Rattle.bus_semantics.specs.Spelling.{Spells}
 use Rattle.description_stages.specs.declared.planning.PlannedDescription.{PlannedDescription}
 use Rattle.description_stages.specs.Plans.{IsPlanRefusalOf}
 use Rattle.script_run.specs.Quieting.{IdlesAreQuiet}

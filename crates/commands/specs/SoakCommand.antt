@@ -2,8 +2,7 @@
 use Rattle.std.specs.Prelude.{◌≡◌, ◌+◌, ◌*◌, ℕ, List, [], ◌++◌, codes, decimal}
 use Rattle.bus_semantics.specs.declared.script.Line.{Line}
 use Rattle.bus_semantics.specs.declared.script.Mapping.{Mapping}
-use Rattle.bus_semantics.specs.Plan.{Plan, plan_of}
-use Rattle.bus_semantics.specs.Run.{Session, IsRunOf}
+use Rattle.bus_semantics.specs.Common.{Plan, plan_of, Session, IsRunOf}
 use Rattle.description_places.specs.Rules.{Reads}
 use Rattle.description_stages.specs.declared.planning.PlannedDescription.{PlannedDescription}
 use Rattle.script_run.specs.Quieting.{IdlesAreQuiet}

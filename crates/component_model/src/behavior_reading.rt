@@ -4,7 +4,8 @@ ghost use Rattle.std.specs.Prelude.{◌≡◌, IfOk, codes, option_map};
 ghost use Rattle.serde_json.specs.Find.{get};
 ghost use Rattle.serde_json.specs.View.{view};
 ghost use Rattle.declared_names.specs.Components.{mode_in};
-ghost use Rattle.component_model.specs.Components.{access_reading, activation_reading, coherent_reading, disabling_modes_reading, disabling_reading, event_kind_reading, event_reading, item_of_access, item_of_event, mode_of_event, pair_reading, port_of_access, port_of_event, variable_reading};
+ghost use Rattle.component_model.specs.Components.{access_reading, activation_reading, coherent_reading, disabling_modes_reading, disabling_reading, event_kind_reading, event_reading};
+ghost use Rattle.component_model.specs.Components.{item_of_access, item_of_event, mode_of_event, pair_reading, port_of_access, port_of_event, variable_reading};
 ghost use Rattle.declared_names.specs.Values.{text_in};
 
 use crate::from_value::{FromValue, read_list};

@@ -2,7 +2,8 @@
 
 ghost use Rattle.std.specs.Prelude.{◌≡◌, IfOk, map, option_map};
 ghost use Rattle.serde_json.specs.View.{view};
-ghost use Rattle.component_model.specs.Compositions.{composition_reading, connector_reading, connectors_between, ends_in, inner_port_reading, port_in_type, prototype_reading, prototype_type_reading, type_named};
+ghost use Rattle.component_model.specs.Compositions.{composition_reading, connector_reading, connectors_between, ends_in, inner_port_reading, port_in_type, prototype_reading};
+ghost use Rattle.component_model.specs.Compositions.{prototype_type_reading, type_named};
 ghost use Rattle.declared_names.specs.Sizes.{AreSmall, IsSmall};
 
 use crate::from_value::{FromValue, read_list};

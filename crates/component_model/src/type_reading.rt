@@ -2,7 +2,8 @@
 
 ghost use Rattle.std.specs.Prelude.{◌≡◌, IfOk, map};
 ghost use Rattle.serde_json.specs.View.{view};
-ghost use Rattle.component_model.specs.Types.{argument_reading, base_type_reading, data_element_reading, data_type_reading, direction_reading, error_reading, interface_kind_reading, interface_reading, mode_element_reading, mode_group_reading, operation_reading, policy_reading, types_reading};
+ghost use Rattle.component_model.specs.Types.{argument_reading, base_type_reading, data_element_reading, data_type_reading, direction_reading, error_reading, interface_kind_reading};
+ghost use Rattle.component_model.specs.Types.{interface_reading, mode_element_reading, mode_group_reading, operation_reading, policy_reading, types_reading};
 ghost use Rattle.declared_names.specs.Sizes.{AreSmall, IsSmall};
 ghost use Rattle.declared_names.specs.Values.{text_in};
 

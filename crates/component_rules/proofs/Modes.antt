@@ -1,26 +1,11 @@
 -- How many modes a port has.
 use Rattle.std.proofs.Common.{◌≡◌, ◌≤◌, ℕ, zero, suc, List, [], ◌∷◌, length, true, nat_le, ◌&&◌, Option, Some, None, option_and_then, option_map, slice_get, arith}
-use Rattle.std.proofs.lemmas.Bool.{and_parts, leb-true}
-use Rattle.std.specs.List.{list_all}
-use Rattle.std.specs.Option.{option_map_or}
-use Rattle.runnable_lang.specs.declared.program.AccessKind.{AccessKind}
+use Rattle.bus_semantics.specs.Common.{and_parts, leb-true, list_all, option_map_or, AccessKind}
 use Rattle.runnable_lang.specs.declared.program.AccessKind.TheVariants as kind
-use Rattle.description_types.specs.declared.interface.DataElement.{DataElement}
-use Rattle.description_types.specs.declared.interface.Interface.{Interface}
-use Rattle.description_types.specs.declared.interface.InterfaceKind.{InterfaceKind}
-use Rattle.description_types.specs.declared.interface.InterfaceKind.TheVariants.{SenderReceiver, ClientServer, ModeSwitch}
-use Rattle.description_types.specs.declared.interface.ModeGroup.{ModeGroup}
-use Rattle.description_types.specs.declared.interface.Operation.{Operation}
-use Rattle.description_types.specs.declared.interface.TypeTable.{TypeTable}
-use Rattle.description_types.specs.declared.component.Access.{Access}
-use Rattle.description_types.specs.declared.component.Component.{Component}
-use Rattle.description_types.specs.declared.component.Port.{Port}
-use Rattle.description_types.specs.declared.component.PortKind.{PortKind}
+use Rattle.plan_definitions.specs.Common.{DataElement, Interface, InterfaceKind, SenderReceiver, ClientServer, ModeSwitch, ModeGroup, Operation, TypeTable, Access, Component, Port, PortKind}
+use Rattle.plan_definitions.specs.Common.{item_at, item_of, item_of_port, mode_count, modes_of, group_fits, kind_fits, type_fits, types_fit}
 use Rattle.plan_definitions.specs.declared.item.Item.{Item}
 use Rattle.plan_definitions.specs.declared.item.Item.TheVariants as thing
-use Rattle.plan_definitions.specs.Items.{item_at, item_of, item_of_port}
-use Rattle.plan_definitions.specs.Signatures.{mode_count, modes_of}
-use Rattle.plan_definitions.specs.WellFormed.{group_fits, kind_fits, type_fits, types_fit}
 
 few_of_group : (gs : List ModeGroup) (n : ℕ) → list_all group_fits gs ≡ true → option_map_or mode_count (option_map (λ (g : ModeGroup). thing.Modes (length g.modes)) (slice_get gs n)) 0 ≤ 32
 few_of_group [] n fit = omega arith

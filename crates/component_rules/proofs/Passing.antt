@@ -1,12 +1,7 @@
 -- Where no program breaks any rule, none breaks one of them.
 use Rattle.std.proofs.Common.{◌≡◌, ℕ, List, Option, Some, None, refl, ap, option_map, option_and_then}
 use Rattle.std.specs.Option.{option_or}
-use Rattle.description_types.specs.declared.interface.TypeTable.{TypeTable}
-use Rattle.description_types.specs.declared.component.Component.{Component}
-use Rattle.description_types.specs.declared.description.Description.{Description}
-use Rattle.plan_definitions.specs.Programs.{path_of, program_refusal, refused_in, refused_program}
-use Rattle.plan_definitions.specs.ComponentRefusals.{of_program, of_programs}
-use Rattle.plan_definitions.specs.Spots.{program_text}
+use Rattle.plan_definitions.specs.Common.{TypeTable, Component, Description, path_of, program_refusal, refused_in, refused_program, of_program, of_programs, program_text}
 use Rattle.component_rules.proofs.Firsts.{none_where}
 use Rattle.plan_definitions.proofs.Firsts.{map_none}
 

@@ -2,10 +2,9 @@
 
 ghost use Rattle.std.specs.Prelude.{◌≡◌, true, Some, None, IfOk};
 ghost use Rattle.plan_definitions.specs.declared.component_rule.ComponentRule.TheVariants as rules;
-ghost use Rattle.plan_definitions.specs.Programs.{refused_program};
+ghost use Rattle.plan_definitions.specs.Common.{refused_program, broken_in, of_rule, of_program, of_programs, types_fit};
 ghost use Rattle.plan_definitions.specs.Telling.{Tells};
-ghost use Rattle.plan_definitions.specs.ComponentRefusals.{number_of, broken_in, first_broken, of_rule, of_program, of_programs, of_events, refusal};
-ghost use Rattle.plan_definitions.specs.WellFormed.{types_fit};
+ghost use Rattle.plan_definitions.specs.ComponentRefusals.{number_of, first_broken, of_events, refusal};
 
 use crate::accesses::misfit;
 use crate::calls::mixed;

@@ -1,8 +1,7 @@
 //! Coherent access lists.
 
 ghost use Rattle.std.specs.Prelude.{◌≡◌, ◌-◌, ◌++◌, IfOk, OnOk, map, nat_le, sum_by};
-ghost use Rattle.std.specs.List.{flat_map, list_all};
-ghost use Rattle.bus_semantics.specs.SoundPlan.{is_in};
+ghost use Rattle.bus_semantics.specs.Common.{flat_map, list_all, is_in};
 ghost use Rattle.plan_definitions.specs.Coherent.{item_of, read_by, written_by, listed, comes_in, comes_once, words_at, list_fits, incoherent_among, incoherent};
 
 use crate::items::words_at;

@@ -2,7 +2,8 @@
 
 ghost use Rattle.std.specs.Prelude.{◌≡◌, nat_lt};
 ghost use Rattle.std.specs.List.{list_all};
-ghost use Rattle.plan_definitions.specs.Events.{requires_data, provides_operation, requires_operation, provides_modes, required_modes, has_moment, kind_fits, misplaced, may_be_disabled, has_modes, disabling_fits, wrongly_disabled};
+ghost use Rattle.plan_definitions.specs.Events.{requires_data, provides_operation, requires_operation, provides_modes, required_modes, has_moment, kind_fits, misplaced, may_be_disabled};
+ghost use Rattle.plan_definitions.specs.Events.{has_modes, disabling_fits, wrongly_disabled};
 
 use crate::items::item_at;
 use description_types::{

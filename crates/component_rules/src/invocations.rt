@@ -2,9 +2,8 @@
 
 ghost use Rattle.std.specs.Prelude.{◌≡◌, ◌++◌, ◌==◌, IfOk, OnOk, nat_eq};
 ghost use Rattle.std.specs.Option.{option_or};
-ghost use Rattle.plan_definitions.specs.Firsts.{each_number};
-ghost use Rattle.plan_definitions.specs.Counts.{count, same_operation};
-ghost use Rattle.plan_definitions.specs.Invocations.{operation_of, invoked, operation_count, operations_at, is_served, started, is_alone, unserved, shared, wrongly_served};
+ghost use Rattle.plan_definitions.specs.Common.{each_number, count, same_operation, operation_of, invoked, is_served, started, is_alone, unserved, shared, wrongly_served};
+ghost use Rattle.plan_definitions.specs.Invocations.{operation_count, operations_at};
 
 use crate::tally::Tally;
 use description_types::{Component, Event, EventKind, InterfaceKind, Port, PortKind, TypeTable};

@@ -1,8 +1,7 @@
 //! The items of ports.
 
 ghost use Rattle.std.specs.Prelude.{◌≡◌, option_copied};
-ghost use Rattle.plan_definitions.specs.Coherent.{words_of_type, words_in, words_at};
-ghost use Rattle.plan_definitions.specs.Items.{item_of, item_of_port, item_at};
+ghost use Rattle.plan_definitions.specs.Common.{words_of_type, words_in, words_at, item_of, item_of_port, item_at};
 ghost use Rattle.plan_definitions.specs.Signatures.{kind_at};
 
 use description_types::{

@@ -1,8 +1,7 @@
 //! Whether the programs of runnables may run.
 
 ghost use Rattle.std.specs.Prelude.{◌≡◌, IfOk, true, Option, Some, None, option_and_then, option_map};
-ghost use Rattle.plan_definitions.specs.Programs.{program_refusal, is_wanted, path_of, refused_in, refused_program};
-ghost use Rattle.plan_definitions.specs.WellFormed.{types_fit};
+ghost use Rattle.plan_definitions.specs.Common.{program_refusal, is_wanted, path_of, refused_in, refused_program, types_fit};
 
 use crate::signatures::signature_of;
 use description_types::{Component, Description, Runnable, TypeTable};

@@ -1,5 +1,6 @@
 -- The limits of a description, by its counts and its links.
-use Rattle.std.proofs.Common.{◌≡◌, ℕ, ◌<◌, ◌≤◌, List, [], ◌∷◌, length, map, Vec, Bool, true, false, not, Option, Some, ◌⊎◌, inl, inr, ⊎_elim, ◌↔◌, IsTrue, IfSome, refl, sym, ap, subst, ◌∙◌, arith, true≢false, Less}
+use Rattle.std.proofs.Common.{◌≡◌, ℕ, ◌<◌, ◌≤◌, List, [], ◌∷◌, length, map, Vec, Bool, true, false, not, Option, Some, ◌⊎◌, inl, inr, ⊎_elim, ◌↔◌, IsTrue, IfSome, refl, sym, ap, subst, ◌∙◌}
+use Rattle.std.proofs.Common.{arith, true≢false, Less}
 use Rattle.std.proofs.lemmas.List.{length-map}
 use Rattle.std.specs.Global.{Global}
 use Rattle.std.specs.List.{AllByRecursion}

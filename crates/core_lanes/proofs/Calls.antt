@@ -1,37 +1,16 @@
 -- What the environment may want, and its entries as calls in a round.
 use Rattle.std.proofs.Common.{◌≡◌, ◌<◌, ◌+◌, ℕ, Bool, true, false, ◌&&◌, if◌then◌else◌, refl, sym, ◌∙◌, ap, subst, arith, length, Option, Some, None}
 use Rattle.std.specs.Prelude.{◌==◌, unwrap_or, not, option_and_then}
-use Rattle.std.specs.Option.{option_map, option_map_or}
-use Rattle.std.specs.List.{slice_get}
-use Rattle.std.specs.Cmp.{unsigned_Decides}
-use Rattle.std.proofs.lemmas.Bool.{and_parts, false≢true}
-use Rattle.std.proofs.lemmas.Option.{none-some}
-use Rattle.rte_value.specs.Values.{same_number}
-use Rattle.bus_semantics.specs.declared.entries.Actor.{Actor}
-use Rattle.bus_semantics.specs.declared.entries.Actor.TheVariants.{Env}
-use Rattle.bus_semantics.specs.declared.entries.Deed.{Deed}
+use Rattle.bus_semantics.specs.Common.{option_map, option_map_or, slice_get, unsigned_Decides, and_parts, false≢true, none-some, same_number, Plan, look, group_of, home_of, bundle_of}
+use Rattle.bus_semantics.specs.Common.{Wanted, to_tick, to_start, to_admit, to_write, to_read, to_send, to_receive, to_ask, to_hear, to_take_result, to_return, to_enter, to_leave, to_switch}
+use Rattle.bus_semantics.specs.Common.{to_see_mode, to_move_on, to_end, wanted_by, Past, needs_event, first_machine, object_of, touched_by, wish_fits, answer_fits, activation_fits, fits}
+use Rattle.bus_semantics.specs.Common.{is_unqueued, is_queued, holds, Answers, starts_its_own, event_of, IsSound}
+use Rattle.bus_laws.specs.Common.{Actor, Env, Deed, Entry, Stamped, ElemPlan, ModePortPlan, Mapping}
 use Rattle.bus_semantics.specs.declared.entries.Deed.TheVariants as deed
-use Rattle.bus_semantics.specs.declared.entries.Entry.{Entry}
-use Rattle.bus_semantics.specs.declared.entries.Stamped.{Stamped}
-use Rattle.bus_semantics.specs.declared.plan.ElemPlan.{ElemPlan}
-use Rattle.bus_semantics.specs.declared.plan.ModePortPlan.{ModePortPlan}
-use Rattle.bus_semantics.specs.declared.script.Mapping.{Mapping}
-use Rattle.bus_semantics.specs.Plan.{Plan, look, group_of}
-use Rattle.bus_semantics.specs.Bundles.{home_of, bundle_of}
-use Rattle.bus_semantics.specs.Wanted.{Wanted, to_tick, to_start, to_admit, to_write, to_read, to_send, to_receive, to_ask, to_hear, to_take_result, to_return, to_enter, to_leave, to_switch, to_see_mode, to_move_on, to_end, wanted_by}
-use Rattle.bus_semantics.specs.History.{Past, needs_event}
-use Rattle.bus_semantics.specs.Objects.{first_machine, object_of, touched_by}
-use Rattle.bus_semantics.specs.Fitting.{wish_fits, answer_fits, activation_fits, fits}
-use Rattle.bus_semantics.specs.Owners.{is_unqueued, is_queued, holds}
-use Rattle.bus_semantics.specs.Legal.{Answers}
-use Rattle.bus_semantics.specs.Locality.{starts_its_own}
-use Rattle.bus_semantics.specs.Asked.{event_of}
-use Rattle.bus_semantics.specs.Sound.{IsSound}
 use Rattle.history_laws.specs.Coming.{may_be_held}
 use Rattle.object_kinds.proofs.Members.{group_within}
 use Rattle.object_kinds.proofs.Ranges.{sought}
-use Rattle.port_objects.specs.Benches.{IsStampedFor, stamped_alone}
-use Rattle.port_objects.specs.Freed.{is_free, IsFree, Frees}
+use Rattle.port_objects.specs.Common.{IsStampedFor, stamped_alone, is_free, IsFree, Frees}
 use Rattle.task_slots.specs.Stepping.{noting_of}
 use Rattle.core_lanes.specs.Calling.{IsCall}
 use Rattle.bus_laws.proofs.Thinning.{there_is}

@@ -1,7 +1,6 @@
 -- Lanes of cores and seats.
 use Rattle.std.proofs.Common.{◌≡◌, ◌≤◌, ◌+◌, ℕ, zero, suc, refl, sym, ◌∙◌, ap, arith, List, [], ◌∷◌, ◌++◌, map, length, take, drop, drop_of_length-le, append-nil, Option, Some, None}
-use Rattle.std.proofs.Math.Seq.{take-length}
-use Rattle.std.specs.List.{slice_get}
+use Rattle.bus_semantics.specs.Common.{take-length, slice_get}
 use Rattle.core_turn.specs.Cores.{CoreState}
 use Rattle.cross_core_table.specs.declared.seats.CoreSeat.{CoreSeat}
 use Rattle.core_lanes.specs.declared.lanes.Lane.{Lane}

@@ -1,11 +1,8 @@
 -- What a core made by turns, with a further turn; and the same core, whatever its trace.
 use Rattle.std.proofs.Common.{◌≡◌, sym, ◌∙◌, ap, subst, List, [], ◌∷◌, ◌++◌, Some}
 use Rattle.std.specs.Prelude.{map}
-use Rattle.std.specs.List.{slice_get}
-use Rattle.bus_semantics.specs.declared.entries.Stamped.{Stamped}
-use Rattle.bus_semantics.specs.declared.script.Mapping.{Mapping}
-use Rattle.bus_semantics.specs.Plan.{Plan}
-use Rattle.bus_semantics.specs.History.{History}
+use Rattle.bus_semantics.specs.Common.{slice_get, Plan, History}
+use Rattle.bus_laws.specs.Common.{Stamped, Mapping}
 use Rattle.port_objects.specs.Benches.{Told}
 use Rattle.task_machine.specs.declared.instr.TaskSet.{TaskSet}
 use Rattle.task_slots.specs.Slots.{table_of}

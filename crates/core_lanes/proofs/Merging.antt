@@ -1,28 +1,14 @@
 -- The entries of cores that make their turns at the same time, and calls of the environment meanwhile, one after the other in order of stamps: each may
 -- follow those before it.
-use Rattle.std.proofs.Common.{◌≡◌, ◌≢◌, ◌<◌, ◌≤◌, ◌⊎◌, inl, inr, ℕ, suc, ◌+◌, Bool, true, false, if◌then◌else◌, refl, sym, ◌∙◌, ap, subst, arith, List, [], ◌∷◌, ◌++◌, map, length, set, append_assoc, All, Option, Some, None}
+use Rattle.std.proofs.Common.{◌≡◌, ◌≢◌, ◌<◌, ◌≤◌, ◌⊎◌, inl, inr, ℕ, suc, ◌+◌, Bool, true, false, if◌then◌else◌, refl, sym, ◌∙◌, ap, subst, arith, List, [], ◌∷◌, ◌++◌, map, length, set}
+use Rattle.std.proofs.Common.{append_assoc, All, Option, Some, None}
 use Rattle.std.specs.Prelude.{filter, nat_lt, IfSome}
-use Rattle.std.specs.List.{list_all, slice_get}
-use Rattle.std.proofs.lemmas.Bool.{and_parts, eq-eqb, ltb-true, ne_eqb}
-use Rattle.std.proofs.lemmas.List.{length-set}
-use Rattle.std.proofs.lemmas.Option.{same_Some, slice_get_within}
-use Rattle.std.proofs.lemmas.List.Elements.{filter-append, All-head, All-tail}
+use Rattle.bus_semantics.specs.Common.{list_all, slice_get, and_parts, eq-eqb, ltb-true, ne_eqb, length-set, same_Some, slice_get_within, filter-append, All-head, All-tail, same_number}
+use Rattle.bus_semantics.specs.Common.{Plan, every_from, History, Noted, Past, is_environment, started_before, note, noted, touched_by, touches, entries_of, IsObject, fits, follows_program}
+use Rattle.bus_semantics.specs.Common.{Answers, MayFollow, IsLegal, starts_its_own, is_proper, SameAnswers, Follows, IsPastOf, IsSound, Logged, part_of, past_of}
 use mathlib.Core.Logic.{dite}
 use native.Mathlib.Decide.{ℕ_discrete}
-use Rattle.rte_value.specs.Values.{same_number}
-use Rattle.bus_semantics.specs.declared.entries.Entry.{Entry}
-use Rattle.bus_semantics.specs.declared.entries.Stamped.{Stamped}
-use Rattle.bus_semantics.specs.declared.script.Mapping.{Mapping}
-use Rattle.bus_semantics.specs.Plan.{Plan, every_from}
-use Rattle.bus_semantics.specs.History.{History, Noted, Past, is_environment, started_before, note, noted}
-use Rattle.bus_semantics.specs.Objects.{touched_by, touches, entries_of, IsObject}
-use Rattle.bus_semantics.specs.Fitting.{fits}
-use Rattle.bus_semantics.specs.Actor.{follows_program}
-use Rattle.bus_semantics.specs.Legal.{Answers, MayFollow, IsLegal}
-use Rattle.bus_semantics.specs.Locality.{starts_its_own, is_proper, SameAnswers}
-use Rattle.bus_semantics.specs.Pasts.{Follows, IsPastOf}
-use Rattle.bus_semantics.specs.Sound.{IsSound}
-use Rattle.bus_semantics.specs.Interleaving.{Logged, part_of, past_of}
+use Rattle.bus_laws.specs.Common.{Entry, Stamped, Mapping}
 use Rattle.bus_laws.proofs.Thinning.{there_is}
 use Rattle.task_machine.specs.declared.instr.TaskSet.{TaskSet}
 use Rattle.task_slots.specs.declared.slot.Slot.{Slot}

@@ -1,29 +1,15 @@
 -- The closed round: what the parts say of its log.
-use Rattle.std.proofs.Common.{◌≡◌, ◌≢◌, ◌<◌, ◌≤◌, ◌+◌, ◌*◌, ℕ, zero, suc, Bool, true, false, not, ◌==◌, if◌then◌else◌, refl, sym, ◌∙◌, ap, subst, arith, suc-mul, zero-mul, List, [], ◌∷◌, ◌++◌, length, All, Some}
+use Rattle.std.proofs.Common.{◌≡◌, ◌≢◌, ◌<◌, ◌≤◌, ◌+◌, ◌*◌, ℕ, zero, suc, Bool, true, false, not, ◌==◌, if◌then◌else◌, refl, sym, ◌∙◌, ap, subst, arith, suc-mul, zero-mul, List, [], ◌∷◌}
+use Rattle.std.proofs.Common.{◌++◌, length, All, Some}
 use Rattle.std.specs.Prelude.{nat_lt, filter, IfSome}
-use Rattle.std.specs.List.{list_all, slice_get}
-use Rattle.std.proofs.lemmas.Bool.{and_from, and_parts, eqb-true, ltb-true, not-true}
-use Rattle.std.proofs.lemmas.List.{length_push}
-use Rattle.std.proofs.lemmas.List.Elements.{All-head, All-nil, All-tail}
-use Rattle.std.proofs.lemmas.Option.{same_Some, slice_get_within}
+use Rattle.bus_semantics.specs.Common.{list_all, slice_get, and_from, and_parts, eqb-true, ltb-true, not-true, length_push, All-head, All-nil, All-tail, same_Some, slice_get_within, Plan}
+use Rattle.bus_semantics.specs.Common.{positions, every_from, History, Noted, Past, noted, is_environment, touched_by, touches, entries_of, IsObject, clock, fits, IsLegal, is_proper}
+use Rattle.bus_semantics.specs.Common.{SameAnswers, IsPastOf, IsSound, Logged, part_of, IsInterleaved}
 use mathlib.Core.Logic.{dite}
 use native.Mathlib.Decide.{ℕ_discrete}
-use Rattle.bus_semantics.specs.declared.entries.Actor.{Actor}
-use Rattle.bus_semantics.specs.declared.entries.Entry.{Entry}
-use Rattle.bus_semantics.specs.declared.entries.Stamped.{Stamped}
-use Rattle.bus_semantics.specs.declared.script.Mapping.{Mapping}
-use Rattle.bus_semantics.specs.Plan.{Plan, positions, every_from}
-use Rattle.bus_semantics.specs.History.{History, Noted, Past, noted, is_environment}
-use Rattle.bus_semantics.specs.Objects.{touched_by, touches, entries_of, IsObject, clock}
-use Rattle.bus_semantics.specs.Fitting.{fits}
-use Rattle.bus_semantics.specs.Legal.{IsLegal}
-use Rattle.bus_semantics.specs.Locality.{is_proper, SameAnswers}
-use Rattle.bus_semantics.specs.Pasts.{IsPastOf}
-use Rattle.bus_semantics.specs.Sound.{IsSound}
-use Rattle.bus_semantics.specs.Interleaving.{Logged, part_of, IsInterleaved}
+use Rattle.bus_laws.specs.Common.{Actor, Entry, Stamped, Mapping}
 use Rattle.port_objects.specs.declared.object.Object.{Object}
-use Rattle.port_objects.specs.Objects.{kept_of, ArePlans}
-use Rattle.port_objects.specs.Standing.{Stands}
+use Rattle.port_objects.specs.Common.{kept_of, ArePlans, Stands}
 use Rattle.task_machine.specs.declared.instr.TaskSet.{TaskSet}
 use Rattle.task_slots.specs.declared.slot.Slot.{Slot}
 use Rattle.task_slots.specs.declared.slot.Slot.TheVariants as of

@@ -1,13 +1,7 @@
 -- A round of cores, from its opening to its close.
 use Rattle.std.proofs.Common.{◌≡◌, ◌≤◌, ◌*◌, ℕ, zero, suc, refl, sym, ◌∙◌, ap, subst, arith, List, [], ◌∷◌, map, length, true, Some}
-use Rattle.std.specs.List.{slice_get}
-use Rattle.std.proofs.lemmas.List.{length-map}
-use Rattle.std.proofs.lemmas.Option.{same_Some, slice_get_within}
-use Rattle.bus_semantics.specs.declared.entries.Stamped.{Stamped}
-use Rattle.bus_semantics.specs.declared.script.Mapping.{Mapping}
-use Rattle.bus_semantics.specs.Plan.{Plan}
-use Rattle.bus_semantics.specs.History.{History}
-use Rattle.bus_semantics.specs.Sound.{IsSound}
+use Rattle.bus_semantics.specs.Common.{slice_get, length-map, same_Some, slice_get_within, Plan, History, IsSound}
+use Rattle.bus_laws.specs.Common.{Stamped, Mapping}
 use Rattle.bus_laws.proofs.Thinning.{there_is}
 use Rattle.port_objects.specs.declared.object.Object.{Object}
 use Rattle.port_objects.specs.Objects.{ArePlans}
@@ -17,10 +11,8 @@ use Rattle.core_turn.specs.Lawful.{IsLawful}
 use Rattle.cross_core_table.specs.declared.views.Opening.{Opening}
 use Rattle.cross_core_table.specs.declared.seats.CoreSeat.{CoreSeat}
 use Rattle.cross_core_table.specs.Closing.{IsClosed}
-use Rattle.cross_core_table.specs.Logs.{plan_in}
-use Rattle.cross_core_table.specs.OpenRounds.{OpenRound}
+use Rattle.cross_core_table.specs.Common.{plan_in, OpenRound, IsSeatOf, AreSeatsOf, made_of}
 use Rattle.cross_core_table.specs.Opened.{IsOpened}
-use Rattle.cross_core_table.specs.Seats.{IsSeatOf, AreSeatsOf, made_of}
 use Rattle.core_lanes.specs.After.{after, are_within}
 use Rattle.core_lanes.specs.Taking.{TakesTurns, TakeTurns}
 use Rattle.core_lanes.specs.declared.lanes.Lane.{Lane}

@@ -1,8 +1,7 @@
 -- A history and entries that follow it.
 use Rattle.std.specs.Prelude.{List, [], ◌∷◌, Bool, not, filter}
-use Rattle.std.specs.List.{list_all}
+use Rattle.bus_semantics.specs.Common.{list_all, History, is_environment}
 use Rattle.bus_semantics.specs.declared.entries.Stamped.{Stamped}
-use Rattle.bus_semantics.specs.History.{History, is_environment}
 
 -- the history and then these entries, of which the oldest comes first
 abbrev pub after : List Stamped → History → History

@@ -1,13 +1,7 @@
 -- Calls of the environment while cores make their turns: one more part of a round, that is no core's.
 use Rattle.std.specs.Prelude.{◌≡◌, List, [], ◌∷◌, ◌++◌, false, true, None}
-use Rattle.std.specs.List.{All}
-use Rattle.bus_semantics.specs.declared.entries.Actor.TheVariants.{Env}
-use Rattle.bus_semantics.specs.declared.entries.Stamped.{Stamped}
-use Rattle.bus_semantics.specs.Plan.{Plan}
-use Rattle.bus_semantics.specs.History.{Past, needs_event}
-use Rattle.bus_semantics.specs.Objects.{touched_by}
-use Rattle.bus_semantics.specs.Legal.{Answers}
-use Rattle.bus_semantics.specs.Locality.{is_proper}
+use Rattle.bus_semantics.specs.Common.{All, Plan, Past, needs_event, touched_by, Answers, is_proper}
+use Rattle.bus_laws.specs.Common.{Env, Stamped}
 use Rattle.task_machine.specs.declared.instr.TaskSet.{TaskSet}
 use Rattle.task_slots.specs.Stepping.{noting_of}
 use Rattle.core_turn.specs.Cores.{CoreState}

@@ -1,10 +1,8 @@
 -- What a core makes by turns, one entry after the other, whatever its bench tells of the objects (OS: scheduling; SWS_RTE: runnable
 -- activation). Cores that make their turns at the same time each make such a list.
 use Rattle.std.specs.Prelude.{◌≡◌, ℕ, List, [], ◌∷◌, length, slice_get, Some}
-use Rattle.bus_semantics.specs.declared.entries.Stamped.{Stamped}
-use Rattle.bus_semantics.specs.declared.script.Mapping.{Mapping}
-use Rattle.bus_semantics.specs.Plan.{Plan}
-use Rattle.bus_semantics.specs.History.{History}
+use Rattle.bus_laws.specs.Common.{Stamped, Mapping}
+use Rattle.bus_semantics.specs.Common.{Plan, History}
 use Rattle.task_machine.specs.declared.instr.TaskSet.{TaskSet}
 use Rattle.task_slots.specs.declared.slot.Slot.{Slot}
 use Rattle.task_slots.specs.Stepping.{SlotStep}

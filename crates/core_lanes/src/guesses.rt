@@ -1,8 +1,7 @@
 //! Which events of a core an entry may start.
 
 ghost use Rattle.std.specs.Prelude.{IfSome};
-ghost use Rattle.bus_semantics.specs.Objects.{touched_by, IsObject};
-ghost use Rattle.bus_semantics.specs.Plan.{plan_of};
+ghost use Rattle.bus_semantics.specs.Common.{touched_by, IsObject, plan_of};
 ghost use Rattle.core_turn.specs.Awake.{Fits};
 
 use crate::news::News;

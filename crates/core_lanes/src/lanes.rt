@@ -1,8 +1,7 @@
 //! Lanes: a core with its seat in a round.
 
 ghost use Rattle.std.specs.Prelude.{◌≡◌, ◌<◌, ◌≤◌, [], length};
-ghost use Rattle.std.specs.Vec.{vec_capacity};
-ghost use Rattle.bus_semantics.specs.Plan.{plan_of};
+ghost use Rattle.bus_semantics.specs.Common.{vec_capacity, plan_of};
 ghost use Rattle.task_generator.specs.Promise.{AsksAsPlanned};
 ghost use Rattle.cross_core_table.specs.Logs.{plan_in};
 ghost use Rattle.core_lanes.specs.Lanes.{IsSeated, AreSeated, HasGone, HaveGone};

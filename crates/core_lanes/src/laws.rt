@@ -1,10 +1,8 @@
 //! The law of rounds on threads.
 
 ghost use Rattle.std.specs.Prelude.{◌≡◌, ◌≤◌, ◌*◌, ℕ, List, length, true, Some, slice_get};
-ghost use Rattle.bus_semantics.specs.declared.entries.Stamped.{Stamped};
-ghost use Rattle.bus_semantics.specs.declared.script.Mapping.{Mapping};
-ghost use Rattle.bus_semantics.specs.History.{History};
-ghost use Rattle.bus_semantics.specs.Sound.{IsSound};
+ghost use Rattle.bus_laws.specs.Common.{Stamped, Mapping};
+ghost use Rattle.bus_semantics.specs.Common.{History, IsSound};
 ghost use Rattle.port_objects.specs.declared.object.Object.{Object};
 ghost use Rattle.port_objects.specs.Objects.{ArePlans};
 ghost use Rattle.task_machine.specs.declared.instr.TaskSet.{TaskSet};

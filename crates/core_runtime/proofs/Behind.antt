@@ -1,22 +1,15 @@
 -- Where the slots of machines stand, and the one that wakes.
 use Rattle.std.proofs.Common.{◌≡◌, ℕ, zero, suc, ◌+◌, ◌<◌, true, false, sym, ◌∙◌, ap, arith, List, [], ◌∷◌, ◌++◌, length, length-append, get_or, map, set, Some}
-use Rattle.std.specs.List.{slice_get}
-use Rattle.std.specs.Option.{option_map}
-use Rattle.std.proofs.lemmas.List.{length-map}
-use Rattle.std.proofs.lemmas.Option.{same_Some, slice_get_within, slice_get-map, slice_get-get_or}
+use Rattle.bus_semantics.specs.Common.{slice_get, option_map, length-map, same_Some, slice_get_within, slice_get-map, slice_get-get_or, Plan, positions, Noted, touched_by, first_machine}
 use Rattle.bus_semantics.specs.declared.script.Mapping.{Mapping}
 use Rattle.bus_semantics.specs.declared.script.Task.{Task}
-use Rattle.bus_semantics.specs.Plan.{Plan, positions}
-use Rattle.bus_semantics.specs.History.{Noted}
-use Rattle.bus_semantics.specs.Objects.{touched_by, first_machine}
 use Rattle.port_objects.specs.declared.object.Object.{Object}
 use Rattle.task_machine.specs.declared.instr.TaskSet.{TaskSet}
 use Rattle.task_slots.specs.declared.slot.Slot.TheVariants as kind
 use Rattle.task_slots.specs.Slots.{Table, of_task, of_machine, table_of}
 use Rattle.core_turn.specs.Cores.{CoreState, tasks_of_core, task_tables, machine_tables}
 use Rattle.core_turn.specs.Awake.{AwakeState}
-use Rattle.core_runtime.specs.Turns.{AreReady}
-use Rattle.core_runtime.specs.Watching.{owners_of, AreBehind, AreWatched, AreWoken, AreRoused}
+use Rattle.core_runtime.specs.Common.{AreReady, owners_of, AreBehind, AreWatched, AreWoken, AreRoused}
 use Rattle.core_runtime.proofs.NewNodes.{Last, earlier, last, last_or}
 use Rattle.latches.proofs.Places.{Placed, here, there, placed}
 use Rattle.object_kinds.proofs.Positions.{length_positions}

@@ -1,15 +1,8 @@
 -- Whose slot a caller's is.
 use Rattle.std.proofs.Common.{◌≡◌, ℕ, suc, ◌<◌, Bool, true, false, ◌||◌, refl, sym, ◌∙◌, ap, List, [], ◌∷◌, length, map, Some}
 use Rattle.std.specs.Prelude.{nat_lt}
-use Rattle.std.specs.Option.{option_map}
-use Rattle.std.specs.List.{list_any, slice_get}
-use Rattle.std.proofs.lemmas.Bool.{and_parts, false≢true, ltb-true}
-use Rattle.std.proofs.lemmas.Option.{slice_get-map}
-use Rattle.rte_value.specs.Values.{same_number}
-use Rattle.bus_semantics.specs.Plan.{Plan, caller_of, instance_of, runnable_of_event}
-use Rattle.bus_semantics.specs.Wanted.{to_hear}
-use Rattle.bus_semantics.specs.Owners.{key_fits, own_point}
-use Rattle.bus_semantics.specs.Fitting.{activation_may_want}
+use Rattle.bus_semantics.specs.Common.{option_map, list_any, slice_get, and_parts, false≢true, ltb-true, slice_get-map, same_number, Plan, caller_of, instance_of, runnable_of_event, to_hear}
+use Rattle.bus_semantics.specs.Common.{key_fits, own_point, activation_may_want}
 use Rattle.object_kinds.proofs.Options.{number_is}
 use Rattle.task_machine.specs.declared.instr.TaskSet.{TaskSet}
 use Rattle.task_slots.specs.declared.slot.Slot.{Slot}

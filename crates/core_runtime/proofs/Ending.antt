@@ -1,29 +1,19 @@
 -- A node after turns, and one of which nothing may come.
 use Rattle.std.proofs.Common.{◌≡◌, ◌<◌, ℕ, ◌∙◌, arith, List, length, Some}
-use Rattle.std.specs.List.{slice_get}
+use Rattle.bus_semantics.specs.Common.{slice_get, Plan, History, IsLegal, IsAtRest, IsIdle, IsQuiet, IsSound, IsSound}
 use Rattle.bus_semantics.specs.declared.entries.Stamped.{Stamped}
 use Rattle.bus_semantics.specs.declared.script.Mapping.{Mapping}
-use Rattle.bus_semantics.specs.Plan.{Plan}
-use Rattle.bus_semantics.specs.History.{History}
-use Rattle.bus_semantics.specs.Legal.{IsLegal}
-use Rattle.bus_semantics.specs.Rest.{IsAtRest, IsIdle}
-use Rattle.bus_semantics.specs.Quiet.{IsQuiet}
-use Rattle.bus_semantics.specs.Sound.{IsSound}
 use Rattle.port_objects.specs.declared.object.Object.{Object}
-use Rattle.port_objects.specs.Objects.{ArePlans}
+use Rattle.port_objects.specs.Common.{ArePlans, Told}
 use Rattle.task_machine.specs.declared.instr.TaskSet.{TaskSet}
 use Rattle.task_generator.specs.Promise.{AsksAsPlanned}
 use Rattle.core_turn.specs.Cores.{CoreState}
 use Rattle.core_turn.specs.Lawful.{IsLawful}
-use Rattle.port_objects.specs.Benches.{Told}
-use Rattle.bus_semantics.specs.Sound.{IsSound}
 use Rattle.history_laws.proofs.Lists.{there_is}
 use Rattle.core_turn.specs.Resting.{CoreRests}
 use Rattle.core_turn.specs.Turning.{NothingComes}
 use Rattle.core_lanes.specs.Rooms.{HaveRoom}
-use Rattle.core_runtime.specs.After.{after}
-use Rattle.core_runtime.specs.Nodes.{IsNode}
-use Rattle.core_runtime.specs.Turns.{GoesOn, NothingMayCome}
+use Rattle.core_runtime.specs.Common.{after, IsNode, GoesOn, NothingMayCome}
 
 -- ---- where nothing may come
 

@@ -1,19 +1,15 @@
 -- Entries that follow one another, and cores whose trace is cleared.
 use Rattle.std.proofs.Common.{◌≡◌, ℕ, refl, sym, ◌∙◌, ap, subst, List, [], ◌∷◌, ◌++◌, set, Some}
-use Rattle.std.specs.List.{slice_get}
-use Rattle.std.proofs.lemmas.List.{length-set}
+use Rattle.bus_semantics.specs.Common.{slice_get, length-set, Plan, History}
 use Rattle.bus_semantics.specs.declared.entries.Stamped.{Stamped}
 use Rattle.bus_semantics.specs.declared.script.Mapping.{Mapping}
-use Rattle.bus_semantics.specs.Plan.{Plan}
-use Rattle.bus_semantics.specs.History.{History}
 use Rattle.port_objects.specs.declared.object.Object.{Object}
 use Rattle.task_machine.specs.declared.instr.TaskSet.{TaskSet}
 use Rattle.core_turn.specs.Cores.{CoreState}
 use Rattle.core_turn.specs.Lawful.{IsLawful}
 use Rattle.core_turn.specs.Ready.{IsReady}
 use Rattle.core_turn.specs.Standing.{CoreStands}
-use Rattle.core_runtime.specs.After.{after}
-use Rattle.core_runtime.specs.Turns.{GoesOn}
+use Rattle.core_runtime.specs.Common.{after, GoesOn}
 use Rattle.core_lanes.specs.Taking.{IsSameCore}
 use Rattle.core_lanes.proofs.MergedTurns.{same_ready, same_stands}
 use Rattle.latches.proofs.Places.{Placed, here, there, placed, set_here, set_there}

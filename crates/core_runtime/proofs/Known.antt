@@ -1,9 +1,7 @@
 -- The events of a slot that can step are the plan's.
 use Rattle.std.proofs.Common.{◌≡◌, ℕ, true, refl, List, [], ◌∷◌, length}
 use Rattle.std.specs.Prelude.{nat_lt}
-use Rattle.std.specs.List.{list_all}
-use Rattle.std.proofs.lemmas.Bool.{and_from, and_parts}
-use Rattle.bus_semantics.specs.Plan.{Plan}
+use Rattle.bus_semantics.specs.Common.{list_all, and_from, and_parts, Plan}
 use Rattle.task_machine.specs.declared.instr.TaskSet.{TaskSet}
 use Rattle.task_slots.specs.declared.slot.Slot.{Slot}
 use Rattle.task_slots.specs.declared.slot.Slot.TheVariants as of

@@ -1,14 +1,10 @@
 -- What turns make, one after the other.
 use Rattle.std.proofs.Common.{◌≡◌, ◌<◌, ◌≤◌, ◌+◌, ℕ, refl, sym, ◌∙◌, ap, subst, arith, List, [], length, set, Bool, true, false, Some}
 use Rattle.std.specs.Prelude.{ltb}
-use Rattle.std.proofs.lemmas.Bool.{ltb-false}
+use Rattle.bus_semantics.specs.Common.{ltb-false, slice_get, length-set, length_push, same_Some, slice_get_within, plan_of}
 use Rattle.std.proofs.lemmas.Bool.Decides.{Decides-ltb}
-use Rattle.std.specs.List.{slice_get}
-use Rattle.std.proofs.lemmas.List.{length-set, length_push}
-use Rattle.std.proofs.lemmas.Option.{same_Some, slice_get_within}
 use Rattle.bus_semantics.specs.declared.entries.Stamped.{Stamped}
 use Rattle.bus_semantics.specs.declared.plan.BusPlan.{BusPlan}
-use Rattle.bus_semantics.specs.Plan.{plan_of}
 use Rattle.port_objects.specs.declared.object.Object.{Object}
 use Rattle.port_objects.specs.Benches.{Plain}
 use Rattle.task_machine.specs.declared.instr.TaskSet.{TaskSet}

@@ -1,16 +1,12 @@
 -- New cores and new nodes.
 use Rattle.std.proofs.Common.{◌≡◌, ℕ, zero, suc, refl, sym, ◌∙◌, ap, subst, List, [], ◌∷◌, ◌++◌, length, Some}
-use Rattle.std.specs.List.{slice_get}
+use Rattle.bus_semantics.specs.Common.{slice_get, Plan, clock, IsSound}
 use Rattle.bus_semantics.specs.declared.script.Mapping.{Mapping}
-use Rattle.bus_semantics.specs.Plan.{Plan}
-use Rattle.bus_semantics.specs.Objects.{clock}
 use Rattle.port_objects.specs.declared.object.Object.{Object}
-use Rattle.port_objects.specs.Objects.{kept_of}
-use Rattle.port_objects.specs.Standing.{Stands}
+use Rattle.port_objects.specs.Common.{kept_of, Stands}
 use Rattle.task_machine.specs.declared.instr.TaskSet.{TaskSet}
 use Rattle.core_turn.specs.Cores.{CoreState}
 use Rattle.core_turn.specs.Lawful.{IsLawful}
-use Rattle.bus_semantics.specs.Sound.{IsSound}
 use Rattle.core_lanes.specs.Rooms.{HaveRoom}
 use Rattle.core_runtime.specs.Nodes.{AreNewCores, IsNewCore}
 

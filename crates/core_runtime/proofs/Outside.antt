@@ -1,39 +1,21 @@
 -- The entry of a wish of the environment keeps a node lawful.
 use Rattle.std.proofs.Common.{◌≡◌, ◌≢◌, ◌<◌, ◌+◌, ℕ, suc, Bool, true, false, if◌then◌else◌, refl, sym, ◌∙◌, ap, subst, arith, List, ◌∷◌, length, set, get_or, Option, Some, None}
 use Rattle.std.specs.Prelude.{◌==◌, IfSome, unwrap_or}
-use Rattle.std.specs.List.{slice_get}
-use Rattle.std.specs.Cmp.{unsigned_Decides}
-use Rattle.std.proofs.lemmas.Bool.{and_parts, false≢true}
-use Rattle.std.proofs.lemmas.List.{length-set}
-use Rattle.rte_value.specs.Values.{same_number}
+use Rattle.bus_semantics.specs.Common.{slice_get, unsigned_Decides, and_parts, false≢true, length-set, same_number, Plan, Wanted, History, Noted, is_environment, needs_event, started_before}
+use Rattle.bus_semantics.specs.Common.{note, noted, clock, object_of, touched_by, touches, entries_of, touched, IsObject, wish_fits, follows_program, Answers, MayFollow, IsLegal, IsSound}
+use Rattle.bus_semantics.specs.Common.{Follows, event_of, noted_for, MayCome}
 use Rattle.bus_semantics.specs.declared.entries.Actor.{Actor}
 use Rattle.bus_semantics.specs.declared.entries.Actor.TheVariants.{Env}
 use Rattle.bus_semantics.specs.declared.entries.Entry.{Entry}
 use Rattle.bus_semantics.specs.declared.entries.Deed.{Deed}
 use Rattle.bus_semantics.specs.declared.script.Mapping.{Mapping}
-use Rattle.bus_semantics.specs.Plan.{Plan}
-use Rattle.bus_semantics.specs.Wanted.{Wanted}
-use Rattle.bus_semantics.specs.History.{History, Noted, is_environment, needs_event, started_before, note, noted}
-use Rattle.bus_semantics.specs.Objects.{clock, object_of, touched_by, touches, entries_of, touched, IsObject}
-use Rattle.bus_semantics.specs.Fitting.{wish_fits}
-use Rattle.bus_semantics.specs.Actor.{follows_program}
-use Rattle.bus_semantics.specs.Legal.{Answers, MayFollow, IsLegal}
-use Rattle.bus_semantics.specs.Sound.{IsSound}
-use Rattle.bus_semantics.specs.Pasts.{Follows}
-use Rattle.bus_semantics.specs.Asked.{event_of, noted_for, MayCome}
 use Rattle.port_objects.specs.declared.object.Object.{Object}
-use Rattle.port_objects.specs.Objects.{kept_of, IsOfPlan}
-use Rattle.port_objects.specs.Standing.{Stands}
-use Rattle.port_objects.specs.Coming.{MayAsk, IsTheOne}
-use Rattle.port_objects.specs.Answers.{IsMade}
-use Rattle.port_objects.specs.Leading.{lead}
-use Rattle.port_objects.specs.Freed.{Frees}
+use Rattle.port_objects.specs.Common.{kept_of, IsOfPlan, Stands, MayAsk, IsTheOne, IsMade, lead, Frees}
 use Rattle.task_machine.specs.declared.instr.TaskSet.{TaskSet}
 use Rattle.core_turn.specs.Cores.{CoreState}
 use Rattle.core_turn.specs.Lawful.{IsLawful}
 use Rattle.core_turn.specs.Standing.{CoreStands}
-use Rattle.core_runtime.specs.Nodes.{IsNode}
-use Rattle.core_runtime.specs.Watching.{Touches}
+use Rattle.core_runtime.specs.Common.{IsNode, Touches}
 use Rattle.core_lanes.proofs.Calls.{no_event, eventless, no_need, touches_none, free_fits, AnswersLaw}
 use Rattle.latches.proofs.Places.{Placed, here, there, placed, found_at}
 use Rattle.core_runtime.proofs.Turned.{made_touches}

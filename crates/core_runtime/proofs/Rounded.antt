@@ -1,16 +1,11 @@
 -- A round over what a node keeps, and what it gives back.
 use Rattle.std.proofs.Common.{◌≡◌, sym, ◌∙◌, ap, subst, ℕ, [], None}
-use Rattle.std.specs.Vec.{vec_capacity}
+use Rattle.bus_semantics.specs.Common.{vec_capacity, plan_of}
 use Rattle.bus_semantics.specs.declared.plan.BusPlan.{BusPlan}
 use Rattle.bus_semantics.specs.declared.script.Mapping.{Mapping}
-use Rattle.bus_semantics.specs.Plan.{plan_of}
 use Rattle.port_objects.specs.Objects.{ArePlans}
 use Rattle.task_machine.specs.declared.instr.TaskSet.{TaskSet}
-use Rattle.core_runtime.specs.declared.live.Live.{Live}
-use Rattle.core_runtime.specs.Nodes.{IsNode}
-use Rattle.core_runtime.specs.Rounds.{RoundState, IsLater}
-use Rattle.core_runtime.specs.Turns.{Made, NothingMayCome, EachTakesOne}
-use Rattle.core_runtime.specs.Watching.{IsWatch}
+use Rattle.core_runtime.specs.Common.{Live, IsNode, RoundState, IsLater, Made, NothingMayCome, EachTakesOne, IsWatch}
 use Rattle.core_runtime.proofs.Ending.{gone_node}
 use Rattle.core_runtime.proofs.Turning.{made_nothing}
 

@@ -3,9 +3,7 @@ use Rattle.std.proofs.Common.{◌≡◌, ◌⊎◌, inl, inr, sym, subst, List, 
 use Rattle.bus_semantics.specs.declared.entries.Stamped.{Stamped}
 use Rattle.bus_semantics.specs.declared.plan.BusPlan.{BusPlan}
 use Rattle.bus_semantics.specs.declared.script.Mapping.{Mapping}
-use Rattle.bus_semantics.specs.History.{History}
-use Rattle.bus_semantics.specs.Plan.{plan_of}
-use Rattle.bus_semantics.specs.Rest.{IsIdle}
+use Rattle.bus_semantics.specs.Common.{History, plan_of, IsIdle}
 use Rattle.core_runtime.specs.After.{after}
 use Rattle.core_runtime.specs.Nodes.{NodeState, IsLawfulNode, IsSameNode}
 

@@ -1,15 +1,9 @@
 -- Seats that are added to the lists of their events.
 use Rattle.std.proofs.Common.{◌≡◌, ℕ, zero, suc, ◌<◌, ◌≤◌, ◌+◌, ◌==◌, Bool, true, false, ◌⊎◌, inl, inr, refl, sym, ◌∙◌, ap, subst, arith, List, [], ◌∷◌, ◌++◌, length, get_or, set, Some, None}
 use Rattle.std.specs.Prelude.{Vec, All, nat_lt}
-use Rattle.std.specs.Global.{Global}
-use Rattle.std.specs.Cmp.{unsigned_Decides}
-use Rattle.std.specs.List.{list_all, slice_get}
-use Rattle.std.proofs.lemmas.Bool.{cases_lt, false≢true, ltb-true}
-use Rattle.std.proofs.lemmas.List.{length-set}
+use Rattle.bus_semantics.specs.Common.{Global, unsigned_Decides, list_all, slice_get, cases_lt, false≢true, ltb-true, length-set, same_Some, slice_get_within}
 use Rattle.std.proofs.lemmas.List.Folds.{list_all_at}
-use Rattle.std.proofs.lemmas.Option.{same_Some, slice_get_within}
-use Rattle.core_runtime.specs.declared.seats.Seat.{Seat}
-use Rattle.core_runtime.specs.Watching.{IsOfTask, IsOfCore, IsOfCores, IsAt, Adds, AreSeated}
+use Rattle.core_runtime.specs.Common.{Seat, IsOfTask, IsOfCore, IsOfCores, IsAt, Adds, AreSeated}
 use Rattle.core_runtime.proofs.NewNodes.{Last, earlier, last, last_or}
 use Rattle.latches.proofs.Places.{Placed, here, there, placed, set_here, set_there}
 

@@ -1,16 +1,10 @@
 -- An event that is added to the list of its runnable, and all of them.
 use Rattle.std.proofs.Common.{◌≡◌, ◌<◌, ◌≤◌, ◌+◌, ℕ, sym, ◌∙◌, ap, subst, arith, List, [], ◌∷◌, ◌++◌, length, set, None, Some}
 use Rattle.std.specs.Prelude.{Vec}
-use Rattle.std.specs.Global.{Global}
-use Rattle.std.specs.List.{Contains, slice_get}
-use Rattle.std.specs.Option.{option_map_or}
-use Rattle.std.proofs.lemmas.Bool.{cases_eq, cases_lt}
-use Rattle.std.proofs.lemmas.List.{length-set}
+use Rattle.bus_semantics.specs.Common.{Global, Contains, slice_get, option_map_or, cases_eq, cases_lt, length-set, same_Some, slice_get_past, Plan, runnable_of_event}
 use Rattle.std.proofs.lemmas.List.Elements.{Contains-push, Contains-append_left}
-use Rattle.std.proofs.lemmas.Option.{same_Some, slice_get_past}
 use Rattle.std.proofs.Common.{◌⊎◌, inl, inr}
 use Rattle.bus_semantics.specs.declared.plan.EventPlan.{EventPlan}
-use Rattle.bus_semantics.specs.Plan.{Plan, runnable_of_event}
 use Rattle.core_runtime.specs.Watching.{AreStarters, IsListed, IsStarter}
 use Rattle.latches.proofs.Places.{set_here, set_there}
 

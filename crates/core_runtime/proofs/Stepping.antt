@@ -1,16 +1,12 @@
 -- A turn over a plain bench, whose entry is written into the node's list.
 use Rattle.std.proofs.Common.{◌≡◌, ◌<◌, ℕ, refl, sym, ◌∙◌, ap, subst, List, [], ◌∷◌, ◌++◌, set, Some, None}
-use Rattle.std.proofs.lemmas.Option.{same_Some}
-use Rattle.std.specs.List.{slice_get}
+use Rattle.bus_semantics.specs.Common.{same_Some, slice_get, Plan, History}
 use Rattle.bus_semantics.specs.declared.entries.Stamped.{Stamped}
 use Rattle.bus_semantics.specs.declared.script.Mapping.{Mapping}
-use Rattle.bus_semantics.specs.Plan.{Plan}
-use Rattle.bus_semantics.specs.History.{History}
-use Rattle.port_objects.specs.Benches.{Plain, written_last}
+use Rattle.port_objects.specs.Common.{Plain, written_last, Told}
 use Rattle.task_machine.specs.declared.instr.TaskSet.{TaskSet}
 use Rattle.core_turn.specs.Cores.{CoreState}
 use Rattle.core_turn.specs.Lawful.{IsLawful}
-use Rattle.port_objects.specs.Benches.{Told}
 use Rattle.core_turn.specs.Ready.{IsReady}
 use Rattle.core_turn.specs.Turning.{StepsApart, NothingFound}
 use Rattle.core_lanes.specs.Rooms.{HasRoom}

@@ -1,15 +1,9 @@
 -- A node after a round of several cores.
 use Rattle.std.proofs.Common.{◌≡◌, ◌<◌, ◌≤◌, ◌+◌, ◌*◌, ℕ, zero, suc, refl, sym, ◌∙◌, ap, subst, arith, List, [], ◌∷◌, length, map, set, Option, Some, None}
 use Rattle.std.specs.Prelude.{nat_le, OnErr, OnOk, Ok, Err, Result}
-use Rattle.std.specs.List.{slice_get}
-use Rattle.std.specs.Vec.{vec_capacity}
-use Rattle.std.proofs.lemmas.Bool.{and_parts, leb-true}
-use Rattle.std.proofs.lemmas.List.{length-set}
-use Rattle.std.proofs.lemmas.Option.{slice_get_within, same_Some}
+use Rattle.bus_semantics.specs.Common.{slice_get, vec_capacity, and_parts, leb-true, length-set, slice_get_within, same_Some, Plan, is_in}
 use Rattle.bus_semantics.specs.declared.entries.Stamped.{Stamped}
 use Rattle.bus_semantics.specs.declared.script.Mapping.{Mapping}
-use Rattle.bus_semantics.specs.Plan.{Plan}
-use Rattle.bus_semantics.specs.SoundPlan.{is_in}
 use Rattle.port_objects.specs.declared.object.Object.{Object}
 use Rattle.task_machine.specs.declared.instr.TaskSet.{TaskSet}
 use Rattle.task_slots.specs.declared.slot.Slot.{Slot}
@@ -19,15 +13,12 @@ use Rattle.core_turn.specs.Awake.{AwakeState, Fits, AreHeld}
 use Rattle.core_turn.specs.Lawful.{IsLawful}
 use Rattle.latches.proofs.Places.{Placed, here, there, placed}
 use Rattle.core_lanes.specs.Together.{HasRun}
-use Rattle.core_runtime.specs.After.{after}
+use Rattle.core_runtime.specs.Common.{after, IsNode, GoesOn, Live, AllWatched, HaveSameTasks, AreSeated, AreBehind, AreStarters, AreWatched, IsWatch, tables_of}
 use Rattle.core_runtime.specs.Lives.{HaveTurned, IsSameLive}
-use Rattle.core_runtime.specs.Nodes.{IsNode}
-use Rattle.core_runtime.specs.Turns.{GoesOn}
 use Rattle.core_runtime.proofs.Ending.{gone_node}
 use Rattle.history_laws.proofs.Lists.{there_is}
-use Rattle.core_runtime.specs.declared.live.Live.{Live}
 use Rattle.core_runtime.specs.declared.watch.Watch.{Watch}
-use Rattle.core_runtime.specs.Watching.{AllWatched, AreShaped, HaveSameTasks, AreSeated, AreBehind, AreStarters, AreWatched, IsWatch, tables_of}
+use Rattle.core_runtime.specs.Watching.{AreShaped}
 
 -- ---- the tasks of cores
 

@@ -1,21 +1,13 @@
 -- The watch of all cores, after a turn of one.
-use Rattle.std.proofs.Common.{◌≡◌, ℕ, zero, suc, ◌+◌, ◌<◌, false, ◌&&◌, if◌then◌else◌, arith, refl, sym, ◌∙◌, ap, subst, List, [], ◌∷◌, ◌++◌, length, length-append, map, set, inl, inr, Option, Some, None}
+use Rattle.std.proofs.Common.{◌≡◌, ℕ, zero, suc, ◌+◌, ◌<◌, false, ◌&&◌, if◌then◌else◌, arith, refl, sym, ◌∙◌, ap, subst, List, [], ◌∷◌, ◌++◌, length, length-append, map, set, inl, inr}
+use Rattle.std.proofs.Common.{Option, Some, None}
 use Rattle.std.specs.Prelude.{unwrap_or, is_none, Vec}
-use Rattle.std.specs.Global.{Global}
-use Rattle.std.specs.List.{slice_get}
-use Rattle.std.proofs.lemmas.List.{length-set}
-use Rattle.std.proofs.lemmas.Option.{same_Some, slice_get_within}
+use Rattle.bus_semantics.specs.Common.{Global, slice_get, length-set, same_Some, slice_get_within, Plan, needs_event, Wanted, wanted_by, object_of, touched_by, Try, event_of, noted_for}
 use Rattle.bus_semantics.specs.declared.entries.Actor.{Actor}
 use Rattle.bus_semantics.specs.declared.entries.Deed.{Deed}
 use Rattle.bus_semantics.specs.declared.entries.Deed.TheVariants as deed
 use Rattle.bus_semantics.specs.declared.entries.Entry.{Entry}
 use Rattle.bus_semantics.specs.declared.entries.Stamped.{Stamped}
-use Rattle.bus_semantics.specs.Plan.{Plan}
-use Rattle.bus_semantics.specs.History.{needs_event}
-use Rattle.bus_semantics.specs.Wanted.{Wanted, wanted_by}
-use Rattle.bus_semantics.specs.Objects.{object_of, touched_by}
-use Rattle.bus_semantics.specs.Rest.{Try}
-use Rattle.bus_semantics.specs.Asked.{event_of, noted_for}
 use Rattle.port_objects.specs.declared.object.Object.{Object}
 use Rattle.port_objects.specs.Benches.{Plain}
 use Rattle.task_machine.specs.declared.instr.TaskSet.{TaskSet}
@@ -25,8 +17,7 @@ use Rattle.task_slots.specs.Slots.{Table, table_of, listed_in, events_of_slot}
 use Rattle.task_slots.specs.Looking.{MadeAt, event_for}
 use Rattle.core_turn.specs.Awake.{AwakeState, Fits, StartsHeld, WaitersHeld}
 use Rattle.core_turn.specs.Turning.{StepsApart}
-use Rattle.core_runtime.specs.declared.seats.Seat.{Seat}
-use Rattle.core_runtime.specs.Watching.{tables_of, owners_of, AreBehind, AreSeated, IsWatched, AreWatched, AreWaiting, Touches, IsAfter}
+use Rattle.core_runtime.specs.Common.{Seat, tables_of, owners_of, AreBehind, AreSeated, IsWatched, AreWatched, AreWaiting, Touches, IsAfter}
 use Rattle.latches.proofs.Places.{Placed, here, there, placed}
 use Rattle.core_runtime.proofs.NewNodes.{Last, earlier, last, last_or}
 use Rattle.core_runtime.proofs.Stepping.{told_by}

@@ -1,15 +1,9 @@
 -- Turns one after the other.
 use Rattle.std.proofs.Common.{◌≡◌, ◌+◌, ℕ, suc, refl, sym, ◌∙◌, ap, subst, arith, List, [], ◌∷◌, ◌++◌, length, set, Bool, true, false, Some}
 use Rattle.std.specs.Prelude.{◌==◌, ◌&&◌}
-use Rattle.std.proofs.lemmas.Bool.{and_parts}
-use Rattle.std.specs.Cmp.{unsigned_Decides}
-use Rattle.std.specs.List.{slice_get}
-use Rattle.std.proofs.lemmas.List.{length-set, length_push}
-use Rattle.std.proofs.lemmas.List.Folds.{list_all-append}
+use Rattle.bus_semantics.specs.Common.{and_parts, unsigned_Decides, slice_get, length-set, length_push, list_all-append, stamps_count, Plan, every_from}
 use Rattle.bus_semantics.specs.declared.entries.Stamped.{Stamped}
 use Rattle.bus_semantics.specs.declared.script.Mapping.{Mapping}
-use Rattle.bus_semantics.specs.Interleaving.{stamps_count}
-use Rattle.bus_semantics.specs.Plan.{Plan, every_from}
 use Rattle.port_objects.specs.declared.object.Object.{Object}
 use Rattle.port_objects.specs.Benches.{Plain}
 use Rattle.task_machine.specs.declared.instr.TaskSet.{TaskSet}

@@ -1,18 +1,12 @@
 -- Flags that are set, one after the other.
 use Rattle.std.proofs.Common.{◌≡◌, ℕ, zero, suc, ◌<◌, Bool, true, false, ◌&&◌, ◌||◌, not, refl, sym, ◌∙◌, ap, subst, arith, List, [], ◌∷◌, length, get_or, set, Option, Some}
-use Rattle.std.specs.List.{slice_get}
-use Rattle.std.proofs.lemmas.Bool.{and_from, and_parts, false≢true}
-use Rattle.std.proofs.lemmas.List.{get_or-set_same, length-set}
-use Rattle.std.proofs.lemmas.Option.{slice_get_within, slice_get-get_or, same_Some}
-use Rattle.port_objects.specs.Kept.{Kept}
-use Rattle.port_objects.specs.Waking.{may_start_in}
-use Rattle.bus_semantics.specs.Plan.{Plan}
+use Rattle.bus_semantics.specs.Common.{slice_get, and_from, and_parts, false≢true, get_or-set_same, length-set, slice_get_within, slice_get-get_or, same_Some, Plan}
+use Rattle.port_objects.specs.Common.{Kept, may_start_in}
 use Rattle.port_objects.specs.declared.object.Object.{Object}
 use Rattle.task_machine.specs.declared.instr.TaskSet.{TaskSet}
 use Rattle.task_slots.specs.declared.slot.Slot.{Slot}
 use Rattle.core_turn.specs.Awake.{AwakeState, Fits, StartsHeld, WaitersHeld}
-use Rattle.core_runtime.specs.declared.seats.Seat.{Seat}
-use Rattle.core_runtime.specs.Watching.{is_awake, IsWoken, AreWoken, IsThere, IsSeen, IsUp}
+use Rattle.core_runtime.specs.Common.{Seat, is_awake, IsWoken, AreWoken, IsThere, IsSeen, IsUp}
 use Rattle.latches.proofs.Places.{Placed, here, there, placed}
 
 -- ---- flags

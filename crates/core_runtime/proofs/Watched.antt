@@ -1,27 +1,16 @@
 -- What of the cores is awake, after an entry whose object told what came.
-use Rattle.std.proofs.Common.{◌≡◌, ℕ, zero, suc, ◌+◌, ◌<◌, ◌==◌, Bool, true, false, ◌||◌, not, ◌⊎◌, inl, inr, refl, sym, ◌∙◌, ap, subst, arith, List, [], ◌∷◌, ◌++◌, length, get_or, map, Option, Some, None}
-use Rattle.std.specs.Option.{option_map}
-use Rattle.std.specs.List.{Contains, slice_get}
-use Rattle.std.specs.Cmp.{unsigned_Decides}
+use Rattle.std.proofs.Common.{◌≡◌, ℕ, zero, suc, ◌+◌, ◌<◌, ◌==◌, Bool, true, false, ◌||◌, not, ◌⊎◌, inl, inr, refl, sym, ◌∙◌, ap, subst, arith, List, [], ◌∷◌, ◌++◌, length, get_or, map}
+use Rattle.std.proofs.Common.{Option, Some, None}
+use Rattle.bus_semantics.specs.Common.{option_map, Contains, slice_get, unsigned_Decides, Global, and_right, false≢true, get_or_from_slice_get, slice_get-get_or, slice_get_within}
+use Rattle.bus_semantics.specs.Common.{slice_get-map, same_Some, Plan, kind_of, runnable_of_event, Noted, touched_by, object_of, object_of_kind, first_machine, machine_object, Try}
+use Rattle.bus_semantics.specs.Common.{option_list, gathered, plain_key, start_try, to_start, to_move_on, to_hear, wanted_by, wish_fits, ActKey}
 use Rattle.std.specs.Prelude.{Vec, unwrap_or}
-use Rattle.std.specs.Global.{Global}
-use Rattle.std.proofs.lemmas.Bool.{and_left, and_right, false≢true}
-use Rattle.std.proofs.lemmas.Option.{get_or_from_slice_get, slice_get-get_or, slice_get_within, slice_get-map, same_Some}
+use Rattle.std.proofs.lemmas.Bool.{and_left}
 use Rattle.bus_semantics.specs.declared.entries.Actor.TheVariants.{Act, Machine}
-use Rattle.bus_semantics.specs.Plan.{Plan, kind_of, runnable_of_event}
-use Rattle.bus_semantics.specs.History.{Noted}
-use Rattle.bus_semantics.specs.Objects.{touched_by, object_of, object_of_kind, first_machine, machine_object}
-use Rattle.bus_semantics.specs.Rest.{Try, option_list, gathered, plain_key, start_try}
-use Rattle.bus_semantics.specs.Wanted.{to_start, to_move_on, to_hear, wanted_by}
-use Rattle.bus_semantics.specs.Fitting.{wish_fits}
-use Rattle.rte_value.specs.declared.kinds.ActKey.{ActKey}
 use Rattle.task_machine.specs.declared.instr.TaskSet.{TaskSet}
 use Rattle.object_kinds.specs.Kinds.{IsPlainStart}
 use Rattle.port_objects.specs.declared.object.Object.{Object}
-use Rattle.port_objects.specs.Kept.{Kept}
-use Rattle.port_objects.specs.Leading.{lead}
-use Rattle.port_objects.specs.Objects.{kept_of}
-use Rattle.port_objects.specs.Waking.{may_start_in, may_hear_in, heard_in, wakes, woken_in}
+use Rattle.port_objects.specs.Common.{Kept, lead, kept_of, may_start_in, may_hear_in, heard_in, wakes, woken_in}
 use Rattle.task_slots.specs.declared.slot.Slot.{Slot}
 use Rattle.task_slots.specs.declared.slot.Slot.TheVariants as kind
 use Rattle.core_turn.specs.Cores.{CoreState}

@@ -3,8 +3,7 @@ use Rattle.std.specs.Prelude.{◌≡◌, ℕ, [], length, Some, None, slice_get}
 use Rattle.bus_semantics.specs.declared.script.Mapping.{Mapping}
 use Rattle.bus_semantics.specs.Plan.{Plan}
 use Rattle.port_objects.specs.declared.object.Object.{Object}
-use Rattle.port_objects.specs.Objects.{kept_of, ArePlans}
-use Rattle.port_objects.specs.Standing.{Stands}
+use Rattle.port_objects.specs.Common.{kept_of, ArePlans, Stands}
 use Rattle.task_machine.specs.declared.instr.TaskSet.{TaskSet}
 use Rattle.core_runtime.specs.declared.beginning.Beginning.{Beginning}
 use Rattle.core_runtime.specs.Nodes.{AreNewCores}

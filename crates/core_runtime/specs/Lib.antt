@@ -6,3 +6,4 @@ pub mod Parting
 pub mod Turns
 pub mod Rounds
 pub mod Watching
+pub mod Common

@@ -1,7 +1,6 @@
 -- What turns of several cores make of what they change of a node.
 use Rattle.std.specs.Prelude.{◌≡◌, None}
-use Rattle.std.specs.Vec.{vec_capacity}
-use Rattle.bus_semantics.specs.Plan.{Plan}
+use Rattle.bus_semantics.specs.Common.{vec_capacity, Plan}
 use Rattle.task_machine.specs.declared.instr.TaskSet.{TaskSet}
 use Rattle.core_lanes.specs.Together.{HasRun}
 use Rattle.core_runtime.specs.declared.live.Live.{Live}

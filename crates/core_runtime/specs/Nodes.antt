@@ -3,16 +3,13 @@ use Rattle.std.specs.Prelude.{◌≡◌, ℕ, List, [], length, Some, slice_get}
 use Rattle.bus_semantics.specs.declared.plan.BusPlan.{BusPlan}
 use Rattle.bus_semantics.specs.declared.entries.Stamped.{Stamped}
 use Rattle.bus_semantics.specs.declared.script.Mapping.{Mapping}
-use Rattle.bus_semantics.specs.Plan.{Plan, plan_of}
-use Rattle.bus_semantics.specs.History.{History}
+use Rattle.bus_semantics.specs.Common.{Plan, plan_of, History, IsSound}
 use Rattle.port_objects.specs.declared.object.Object.{Object}
-use Rattle.port_objects.specs.Objects.{ArePlans}
-use Rattle.port_objects.specs.Plans.{HasObjects}
+use Rattle.port_objects.specs.Common.{ArePlans, HasObjects}
 use Rattle.task_machine.specs.declared.instr.TaskSet.{TaskSet}
 use Rattle.task_generator.specs.Promise.{AsksAsPlanned}
 use Rattle.core_turn.specs.Cores.{CoreState}
 use Rattle.core_turn.specs.Lawful.{IsLawful}
-use Rattle.bus_semantics.specs.Sound.{IsSound}
 use Rattle.core_turn.specs.Ready.{IsReady}
 use Rattle.core_turn.specs.Standing.{CoreStands}
 use Rattle.core_lanes.specs.Rooms.{HasRoom, HaveRoom}

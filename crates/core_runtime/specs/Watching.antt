@@ -1,15 +1,8 @@
 -- What of the cores may step, and where the events stand on them.
 use Rattle.std.specs.Prelude.{◌≡◌, ◌<◌, ◌+◌, ◌⊎◌, ℕ, List, [], map, length, set, slice_get, slice_index_or, Bool, true, false, not, ◌&&◌, ◌||◌, Option, Some, None, Vec}
-use Rattle.std.specs.Global.{Global}
-use Rattle.std.specs.List.{Contains}
-use Rattle.bus_semantics.specs.Plan.{Plan, runnable_of_event}
-use Rattle.bus_semantics.specs.History.{Noted}
-use Rattle.bus_semantics.specs.Objects.{touched_by, machine_object}
+use Rattle.bus_semantics.specs.Common.{Global, Contains, Plan, runnable_of_event, Noted, touched_by, machine_object}
 use Rattle.port_objects.specs.declared.object.Object.{Object}
-use Rattle.port_objects.specs.Kept.{Kept}
-use Rattle.port_objects.specs.Leading.{lead}
-use Rattle.port_objects.specs.Objects.{kept_of}
-use Rattle.port_objects.specs.Waking.{may_start_in, heard_in, Tells, TellsPoint}
+use Rattle.port_objects.specs.Common.{Kept, lead, kept_of, may_start_in, heard_in, Tells, TellsPoint}
 use Rattle.task_machine.specs.declared.instr.TaskSet.{TaskSet}
 use Rattle.task_slots.specs.declared.slot.Slot.{Slot}
 use Rattle.task_slots.specs.declared.slot.Slot.TheVariants as slot

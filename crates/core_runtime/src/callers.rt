@@ -1,10 +1,7 @@
 //! What an entry wakes of the activations that wait for answers.
 
 ghost use Rattle.std.specs.Prelude.{◌≡◌, ℕ, List, true, Some, slice_get};
-ghost use Rattle.std.specs.List.{Contains};
-ghost use Rattle.bus_semantics.specs.History.{Noted};
-ghost use Rattle.bus_semantics.specs.Objects.{touched_by};
-ghost use Rattle.bus_semantics.specs.Plan.{plan_of, caller_of};
+ghost use Rattle.bus_semantics.specs.Common.{Contains, Noted, touched_by, plan_of, caller_of};
 ghost use Rattle.port_objects.specs.declared.object.Object.{Object};
 ghost use Rattle.task_machine.specs.declared.instr.TaskSet.{TaskSet};
 ghost use Rattle.core_turn.specs.Cores.{CoreState};

@@ -2,10 +2,7 @@
 
 ghost use Rattle.std.specs.Prelude.{◌≡◌, ℕ, ◌∷◌, true};
 ghost use Rattle.bus_semantics.specs.declared.entries.Actor.TheVariants.{Env};
-ghost use Rattle.bus_semantics.specs.Fitting.{wish_fits};
-ghost use Rattle.bus_semantics.specs.History.{History};
-ghost use Rattle.bus_semantics.specs.Plan.{plan_of};
-ghost use Rattle.bus_semantics.specs.Wanted.{wanted_by, wanted_of};
+ghost use Rattle.bus_semantics.specs.Common.{wish_fits, History, plan_of, wanted_by, wanted_of};
 ghost use Rattle.core_runtime.specs.Nodes.{IsLawfulNode};
 
 use crate::node::Node;

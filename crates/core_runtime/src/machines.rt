@@ -1,9 +1,7 @@
 //! What an entry wakes of the mode machines.
 
 ghost use Rattle.std.specs.Prelude.{◌≡◌, ◌<◌, ◌+◌, ℕ, List, true, false, length, Some, IfSome, slice_get, slice_index_or};
-ghost use Rattle.bus_semantics.specs.History.{Noted};
-ghost use Rattle.bus_semantics.specs.Objects.{touched_by, first_machine};
-ghost use Rattle.bus_semantics.specs.Plan.{plan_of};
+ghost use Rattle.bus_semantics.specs.Common.{Noted, touched_by, first_machine, plan_of};
 ghost use Rattle.port_objects.specs.declared.object.Object.{Object};
 ghost use Rattle.task_machine.specs.declared.instr.TaskSet.{TaskSet};
 ghost use Rattle.core_turn.specs.Cores.{CoreState};

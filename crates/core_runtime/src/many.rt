@@ -1,11 +1,8 @@
 //! Rounds of several cores, at the same time.
 
 ghost use Rattle.std.specs.Prelude.{◌≡◌, ◌≤◌, ◌*◌, OnErr, OnOk, None, length, true};
-ghost use Rattle.std.specs.Vec.{vec_capacity};
+ghost use Rattle.bus_semantics.specs.Common.{vec_capacity, plan_of, History, stamps_count};
 ghost use Rattle.bus_semantics.specs.declared.script.Mapping.{Mapping};
-ghost use Rattle.bus_semantics.specs.Plan.{plan_of};
-ghost use Rattle.bus_semantics.specs.History.{History};
-ghost use Rattle.bus_semantics.specs.Interleaving.{stamps_count};
 ghost use Rattle.core_runtime.specs.After.{after, are_within};
 ghost use Rattle.core_runtime.specs.Lives.{HaveTurned, IsSameLive};
 ghost use Rattle.core_runtime.specs.Nodes.{IsLawfulNode, IsNode, IsSameNode};

@@ -1,8 +1,7 @@
 //! The node.
 
 ghost use Rattle.std.specs.Prelude.{◌≡◌, [], IfOk, min};
-ghost use Rattle.bus_semantics.specs.Plan.{plan_of};
-ghost use Rattle.bus_semantics.specs.Sound.{IsSound};
+ghost use Rattle.bus_semantics.specs.Common.{plan_of, IsSound};
 ghost use Rattle.task_generator.specs.Promise.{AsksAsPlanned};
 ghost use Rattle.core_runtime.specs.Nodes.{IsLawfulNode};
 

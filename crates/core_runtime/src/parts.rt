@@ -1,9 +1,7 @@
 //! A node taken apart, and put together again.
 
 ghost use Rattle.std.specs.Prelude.{◌≡◌};
-ghost use Rattle.std.specs.Vec.{vec_capacity};
-ghost use Rattle.bus_semantics.specs.History.{History};
-ghost use Rattle.bus_semantics.specs.Plan.{plan_of};
+ghost use Rattle.bus_semantics.specs.Common.{vec_capacity, History, plan_of};
 ghost use Rattle.core_turn.specs.Lawful.{IsLawful};
 ghost use Rattle.core_runtime.specs.Nodes.{IsLawfulNode};
 ghost use Rattle.core_runtime.specs.Parting.{AreParts};

@@ -1,11 +1,7 @@
 //! Serial passes.
 
 ghost use Rattle.std.specs.Prelude.{◌≡◌, ◌≤◌, [], length, true};
-ghost use Rattle.bus_semantics.specs.History.{History};
-ghost use Rattle.bus_semantics.specs.Interleaving.{stamps_count};
-ghost use Rattle.bus_semantics.specs.Plan.{plan_of};
-ghost use Rattle.bus_semantics.specs.Quiet.{IsQuiet};
-ghost use Rattle.bus_semantics.specs.Rest.{IsIdle};
+ghost use Rattle.bus_semantics.specs.Common.{History, stamps_count, plan_of, IsQuiet, IsIdle};
 ghost use Rattle.core_runtime.specs.After.{after, are_within};
 ghost use Rattle.core_runtime.specs.Nodes.{IsLawfulNode};
 ghost use Rattle.core_runtime.specs.Rounds.{IsLater};

@@ -1,9 +1,8 @@
 //! What turns work on.
 
 ghost use Rattle.std.specs.Prelude.{◌≡◌, ◌≤◌, [], None};
-ghost use Rattle.std.specs.Vec.{vec_capacity};
+ghost use Rattle.bus_semantics.specs.Common.{vec_capacity, plan_of};
 ghost use Rattle.bus_semantics.specs.declared.script.Mapping.{Mapping};
-ghost use Rattle.bus_semantics.specs.Plan.{plan_of};
 ghost use Rattle.port_objects.specs.Objects.{ArePlans};
 ghost use Rattle.core_runtime.specs.Nodes.{IsNode};
 ghost use Rattle.core_runtime.specs.Watching.{IsWatch};

@@ -1,9 +1,7 @@
 //! What an entry wakes of the activations that wait at exclusive areas.
 
 ghost use Rattle.std.specs.Prelude.{◌≡◌, List, None};
-ghost use Rattle.bus_semantics.specs.History.{Noted};
-ghost use Rattle.bus_semantics.specs.Objects.{touched_by};
-ghost use Rattle.bus_semantics.specs.Plan.{Plan};
+ghost use Rattle.bus_semantics.specs.Common.{Noted, touched_by, Plan};
 ghost use Rattle.port_objects.specs.declared.object.Object.{Object};
 ghost use Rattle.port_objects.specs.Waking.{is_leave};
 ghost use Rattle.task_machine.specs.declared.instr.TaskSet.{TaskSet};

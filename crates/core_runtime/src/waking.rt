@@ -1,10 +1,7 @@
 //! What an entry wakes.
 
 ghost use Rattle.std.specs.Prelude.{◌≡◌, ℕ, List, true, false, None, Some, IfSome, slice_get};
-ghost use Rattle.std.specs.List.{Contains};
-ghost use Rattle.bus_semantics.specs.History.{Noted};
-ghost use Rattle.bus_semantics.specs.Objects.{touched_by, IsObject};
-ghost use Rattle.bus_semantics.specs.Plan.{Plan, plan_of};
+ghost use Rattle.bus_semantics.specs.Common.{Contains, Noted, touched_by, IsObject, Plan, plan_of};
 ghost use Rattle.port_objects.specs.declared.object.Object.{Object};
 ghost use Rattle.port_objects.specs.Objects.{kept_of};
 ghost use Rattle.task_machine.specs.declared.instr.TaskSet.{TaskSet};

@@ -1,27 +1,14 @@
 -- No activation is of two tasks: the events of a runnable are all mapped to one.
-use Rattle.std.proofs.Common.{◌≡◌, ◌≢◌, ℕ, zero, suc, ◌+◌, ◌<◌, ◌≤◌, Bool, true, false, ◌&&◌, ◌||◌, not, ◌==◌, if◌then◌else◌, refl, sym, ◌∙◌, ap, subst, arith, List, [], ◌∷◌, ◌++◌, length, map, take, length-append, Option, Some, None}
+use Rattle.std.proofs.Common.{◌≡◌, ◌≢◌, ℕ, zero, suc, ◌+◌, ◌<◌, ◌≤◌, Bool, true, false, ◌&&◌, ◌||◌, not, ◌==◌, if◌then◌else◌, refl, sym, ◌∙◌, ap, subst, arith, List, [], ◌∷◌, ◌++◌, length}
+use Rattle.std.proofs.Common.{map, take, length-append, Option, Some, None}
 use Rattle.std.specs.Prelude.{filter, nat_lt, nat_le}
-use Rattle.std.specs.List.{list_all, slice_get}
-use Rattle.std.proofs.lemmas.Bool.{and_from, and_parts, eq-eqb, eqb-true, false≢true}
-use Rattle.std.proofs.lemmas.Bool.Decides.{nat_tests}
-use Rattle.std.proofs.lemmas.List.{take_more, append-nil}
-use Rattle.std.proofs.Math.Seq.{take-length}
-use Rattle.std.proofs.lemmas.Option.{get_or_from_slice_get, same_Some}
-use Rattle.rte_value.specs.declared.kinds.ActKey.{ActKey}
-use Rattle.bus_semantics.specs.declared.script.Mapping.{Mapping}
-use Rattle.bus_semantics.specs.declared.script.Task.{Task}
-use Rattle.bus_semantics.specs.Plan.{Plan, look, positions, every_from, runnable_of_event}
-use Rattle.bus_semantics.specs.Rest.{gathered}
-use Rattle.bus_semantics.specs.declared.plan.EventPlan.{EventPlan}
-use Rattle.bus_semantics.specs.SoundPlan.{is_in, same_numbers}
-use Rattle.bus_semantics.specs.SoundNames.{is_name}
+use Rattle.bus_semantics.specs.Common.{list_all, slice_get, and_from, and_parts, eq-eqb, eqb-true, false≢true, nat_tests, take_more, append-nil, take-length, get_or_from_slice_get}
+use Rattle.bus_semantics.specs.Common.{same_Some, ActKey, Plan, look, positions, every_from, runnable_of_event, gathered, is_in, same_numbers, is_name, mapped_events, times_mapped, tasks_of}
+use Rattle.bus_semantics.specs.Common.{IsSound, count, made_by, same_number, same_key}
+use Rattle.bus_laws.specs.Common.{Mapping, Task, EventPlan, Actor}
 use Rattle.bus_laws.proofs.Thinning.{option_same}
 use Rattle.history_laws.specs.LookUps.{clash, looked}
 use Rattle.history_laws.proofs.Lists.{there_is}
-use Rattle.bus_semantics.specs.Sound.{mapped_events, times_mapped, tasks_of, IsSound}
-use Rattle.bus_semantics.specs.declared.entries.Actor.{Actor}
-use Rattle.bus_semantics.specs.History.{count, made_by}
-use Rattle.rte_value.specs.Values.{same_number, same_key}
 use Rattle.task_slots.specs.declared.slot.Slot.{Slot}
 use Rattle.task_slots.specs.declared.slot.Slot.TheVariants as of
 use Rattle.task_slots.specs.Slots.{Table, of_task, of_machine, table_of, listed_in, events_of_slot, starts, home_of, starts_at, is_key_of}

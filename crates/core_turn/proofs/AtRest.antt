@@ -1,21 +1,10 @@
 -- If each core rests, the whole is at rest.
 use Rattle.std.proofs.Common.{◌≡◌, ℕ, zero, suc, ◌<◌, true, false, ◌==◌, if◌then◌else◌, refl, sym, ◌∙◌, ap, subst, arith, List, [], ◌∷◌, ◌++◌, length, Bool, Option, Some, None}
 use Rattle.std.specs.Prelude.{nat_le}
-use Rattle.std.specs.List.{slice_get}
-use Rattle.std.proofs.lemmas.Bool.{and_parts, eq-eqb, eqb-true, leb-true, false≢true}
-use Rattle.std.proofs.lemmas.Option.{slice_get_within}
-use Rattle.rte_value.specs.declared.kinds.ActKey.{ActKey}
-use Rattle.bus_semantics.specs.declared.entries.Actor.TheVariants.{Act}
-use Rattle.bus_semantics.specs.declared.plan.PointPlan.{PointPlan}
-use Rattle.bus_semantics.specs.declared.script.Mapping.{Mapping}
-use Rattle.bus_semantics.specs.declared.script.Task.{Task}
-use Rattle.bus_semantics.specs.Plan.{Plan, positions, caller_of, runnable_of_event}
-use Rattle.bus_semantics.specs.Wanted.{Wanted}
-use Rattle.bus_semantics.specs.History.{History, runs}
-use Rattle.bus_semantics.specs.Actor.{next_wish, direct_key}
-use Rattle.bus_semantics.specs.Rest.{Try, plain_key, option_list, gathered, plain_keys, direct_keys, goes_on_tries, direct_try, direct_tries, machine_tries, task_tries, IsStuck, AllStuck, IsAtRest}
-use Rattle.bus_semantics.specs.SoundPlan.{is_in}
-use Rattle.bus_semantics.specs.Sound.{IsSound}
+use Rattle.bus_semantics.specs.Common.{slice_get, and_parts, eq-eqb, eqb-true, leb-true, false≢true, slice_get_within, ActKey, Plan, positions, caller_of, runnable_of_event, Wanted, History}
+use Rattle.bus_semantics.specs.Common.{runs, next_wish, direct_key, Try, plain_key, option_list, gathered, plain_keys, direct_keys, goes_on_tries, direct_try, direct_tries, machine_tries}
+use Rattle.bus_semantics.specs.Common.{task_tries, IsStuck, AllStuck, IsAtRest, is_in, IsSound}
+use Rattle.bus_laws.specs.Common.{Act, PointPlan, Mapping, Task}
 use Rattle.bus_laws.proofs.Thinning.{sought_where}
 use Rattle.history_laws.specs.Callers.{CallerWaits}
 use Rattle.history_laws.specs.Running.{GoesOn}
@@ -26,7 +15,8 @@ use Rattle.core_turn.specs.Cores.{tasks_of_core}
 use Rattle.core_turn.specs.Resting.{calls_of, calls_by, calls_at, direct_calls, tries_of_task, machines_of, CoreRests}
 use Rattle.core_turn.proofs.Places.{IsAmong, deeper, passing, mapped_from, in_kept}
 use Rattle.core_turn.proofs.Mapped.{InTask, task_within, in_its_task, starts_listed}
-use Rattle.core_turn.proofs.Resting.{stuck_on, stuck_first, stuck_last, stuck_each, stuck_at, stuck_wish, wish_stuck, optional_stuck, plain_mapped, asked_runs, DirectTry, direct_tries_are, direct_try_stuck}
+use Rattle.core_turn.proofs.Resting.{stuck_on, stuck_first, stuck_last, stuck_each, stuck_at, stuck_wish, wish_stuck, optional_stuck, plain_mapped, asked_runs, DirectTry, direct_tries_are}
+use Rattle.core_turn.proofs.Resting.{direct_try_stuck}
 
 -- a number below another stands among its positions
 position_at : (n q : ℕ) → q < n → IsAmong (positions n) q

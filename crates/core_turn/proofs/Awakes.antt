@@ -1,12 +1,8 @@
 -- What sleeps of a core, as slots step and events fall asleep.
 use Rattle.std.proofs.Common.{◌≡◌, ◌≢◌, ℕ, ◌<◌, ◌≤◌, Bool, true, false, refl, sym, ◌∙◌, ap, subst, arith, List, [], length, get_or, set, replicate, inl, inr, Option, Some, None}
-use Rattle.std.specs.Option.{option_map}
-use Rattle.std.specs.List.{slice_get}
-use Rattle.std.proofs.lemmas.Bool.{cases_lt, false≢true}
-use Rattle.std.proofs.lemmas.List.{get_or_past, length-set, length-replicate, length-map, get_or-replicate}
-use Rattle.std.proofs.lemmas.Option.{get_or_from_slice_get, slice_get-get_or, slice_get_within, slice_get-map}
-use Rattle.bus_semantics.specs.Plan.{Plan}
-use Rattle.bus_semantics.specs.Rest.{gathered, start_try}
+use Rattle.bus_semantics.specs.Common.{option_map, slice_get, cases_lt, false≢true, length-set, length-replicate, length-map, get_or_from_slice_get, slice_get-get_or, slice_get_within}
+use Rattle.bus_semantics.specs.Common.{slice_get-map, Plan, gathered, start_try}
+use Rattle.std.proofs.lemmas.List.{get_or_past, get_or-replicate}
 use Rattle.port_objects.specs.declared.object.Object.{Object}
 use Rattle.place_set.specs.Places.{NoneBetween}
 use Rattle.task_machine.specs.declared.instr.TaskSet.{TaskSet}

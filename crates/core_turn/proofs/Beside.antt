@@ -1,12 +1,7 @@
 -- An entry of the environment changes nothing of what a slot stands for.
 use Rattle.std.proofs.Common.{◌≡◌, true, false, refl, ◌∷◌}
-use Rattle.std.proofs.lemmas.Bool.{false≢true}
-use Rattle.rte_value.specs.declared.kinds.ActKey.{ActKey}
-use Rattle.bus_semantics.specs.declared.entries.Actor.{Actor}
-use Rattle.bus_semantics.specs.declared.entries.Actor.TheVariants.{Env, Machine, Act}
-use Rattle.bus_semantics.specs.declared.entries.Entry.{Entry}
-use Rattle.bus_semantics.specs.Plan.{Plan}
-use Rattle.bus_semantics.specs.History.{History, is_environment, made_by}
+use Rattle.bus_semantics.specs.Common.{false≢true, ActKey, Plan, History, is_environment, made_by}
+use Rattle.bus_laws.specs.Common.{Actor, Env, Machine, Act, Entry}
 use Rattle.task_machine.specs.declared.instr.TaskSet.{TaskSet}
 use Rattle.task_slots.specs.declared.slot.Slot.{Slot}
 use Rattle.task_slots.specs.declared.slot.Slot.TheVariants as of

@@ -1,10 +1,9 @@
 -- How many looks are made at what is awake.
-use Rattle.std.proofs.Common.{◌≡◌, ◌≢◌, ◌≤◌, ◌<◌, ◌+◌, ◌-◌, ℕ, zero, suc, Bool, true, false, if◌then◌else◌, List, [], length, set, get_or, get_or-set_other, refl, sym, ◌∙◌, ap, subst, ⊎_elim, arith, Option, Some}
+use Rattle.std.proofs.Common.{◌≡◌, ◌≢◌, ◌≤◌, ◌<◌, ◌+◌, ◌-◌, ℕ, zero, suc, Bool, true, false, if◌then◌else◌, List, [], length, set, get_or, get_or-set_other, refl, sym, ◌∙◌, ap, subst}
+use Rattle.std.proofs.Common.{⊎_elim, arith, Option, Some}
 use mathlib.Core.Logic.{dite}
 use native.Mathlib.Decide.{ℕ_discrete}
-use Rattle.std.specs.List.{slice_get}
-use Rattle.std.specs.Option.{option_map_or}
-use Rattle.bus_semantics.specs.Plan.{Plan}
+use Rattle.bus_semantics.specs.Common.{slice_get, option_map_or, Plan}
 use Rattle.port_objects.specs.Benches.{Work, IsFurther}
 use Rattle.place_set.specs.Places.{NoneBetween}
 use Rattle.task_machine.specs.declared.instr.TaskSet.{TaskSet}

@@ -1,36 +1,16 @@
 -- The entry of a turn keeps cores and objects lawful.
 use Rattle.std.proofs.Common.{◌≡◌, ◌≢◌, ◌⊎◌, inl, inr, ℕ, Bool, true, false, ◌&&◌, not, if◌then◌else◌, refl, sym, ◌∙◌, ap, subst, List, ◌∷◌, length, set, Option, Some, None}
-use Rattle.std.proofs.lemmas.List.{length-set}
+use Rattle.bus_semantics.specs.Common.{length-set, slice_get, and_parts, eq-eqb, eqb-true, false≢true, ne_eqb, same_Some, ActKey, same_number, Plan, Wanted, to_admit, to_end, wanted_by}
+use Rattle.bus_semantics.specs.Common.{same_wanted, History, Noted, Past, needs_event, started_before, note, last_started, runs, object_of, touched_by, touches, entries_of, touched}
+use Rattle.bus_semantics.specs.Common.{wish_fits, answer_fits, activation_fits, fits, next_wish, is_held_back, is_this, starts_or_goes_on, follows_program, MayFollow, starts_its_own}
+use Rattle.bus_semantics.specs.Common.{asks_its_own, event_of, noted_for, MayCome}
 use Rattle.std.specs.Prelude.{is_none, unwrap_or}
-use Rattle.std.specs.List.{slice_get}
-use Rattle.std.proofs.lemmas.Bool.{and_parts, eq-eqb, eqb-true, false≢true, ne_eqb}
-use Rattle.std.proofs.lemmas.Option.{same_Some}
-use Rattle.rte_value.specs.declared.kinds.ActKey.{ActKey}
-use Rattle.rte_value.specs.Values.{same_number}
-use Rattle.bus_semantics.specs.declared.entries.Actor.{Actor}
-use Rattle.bus_semantics.specs.declared.entries.Actor.TheVariants.{Env, Machine, Act}
-use Rattle.bus_semantics.specs.declared.entries.Deed.{Deed}
+use Rattle.bus_laws.specs.Common.{Actor, Env, Machine, Act, Deed, Entry, Stamped, Mapping}
 use Rattle.bus_semantics.specs.declared.entries.Deed.TheVariants as deed
-use Rattle.bus_semantics.specs.declared.entries.Entry.{Entry}
-use Rattle.bus_semantics.specs.declared.entries.Stamped.{Stamped}
-use Rattle.bus_semantics.specs.declared.script.Mapping.{Mapping}
-use Rattle.bus_semantics.specs.Plan.{Plan}
-use Rattle.bus_semantics.specs.Wanted.{Wanted, to_admit, to_end, wanted_by, same_wanted}
-use Rattle.bus_semantics.specs.History.{History, Noted, Past, needs_event, started_before, note, last_started, runs}
-use Rattle.bus_semantics.specs.Objects.{object_of, touched_by, touches, entries_of, touched}
-use Rattle.bus_semantics.specs.Fitting.{wish_fits, answer_fits, activation_fits, fits}
-use Rattle.bus_semantics.specs.Actor.{next_wish, is_held_back, is_this, starts_or_goes_on, follows_program}
-use Rattle.bus_semantics.specs.Legal.{MayFollow}
-use Rattle.bus_semantics.specs.Locality.{starts_its_own}
-use Rattle.bus_semantics.specs.Asked.{asks_its_own, event_of, noted_for, MayCome}
 use Rattle.history_laws.specs.Running.{GoesOn}
 use Rattle.history_laws.proofs.Keys.{wish_runs}
 use Rattle.port_objects.specs.declared.object.Object.{Object}
-use Rattle.port_objects.specs.Objects.{kept_of}
-use Rattle.port_objects.specs.Standing.{Stands}
-use Rattle.port_objects.specs.Coming.{MayAsk, IsTheOne}
-use Rattle.port_objects.specs.Answers.{IsMade}
-use Rattle.port_objects.specs.Benches.{MadeOn, Told}
+use Rattle.port_objects.specs.Common.{kept_of, Stands, MayAsk, IsTheOne, IsMade, MadeOn, Told}
 use Rattle.task_machine.specs.declared.instr.TaskSet.{TaskSet}
 use Rattle.task_slots.specs.declared.slot.Slot.{Slot}
 use Rattle.task_slots.specs.declared.slot.Slot.TheVariants as of

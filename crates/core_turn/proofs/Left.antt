@@ -1,13 +1,8 @@
 -- An area is left, and the first that waits there wakes; or it is entered, and none need be woken.
 use Rattle.std.proofs.Common.{◌≡◌, ◌≢◌, ◌⊎◌, inl, inr, ℕ, ◌==◌, Bool, true, false, sym, ◌∙◌, ap, subst, List, get_or, set, Option, Some, None}
-use Rattle.std.specs.List.{slice_get}
-use Rattle.std.specs.Cmp.{unsigned_Decides}
-use Rattle.std.proofs.lemmas.Bool.{false≢true, and_from, and_parts}
-use Rattle.std.proofs.lemmas.Option.{get_or_from_slice_get, slice_get-get_or, same_Some}
-use Rattle.bus_semantics.specs.Plan.{Plan}
+use Rattle.bus_semantics.specs.Common.{slice_get, unsigned_Decides, false≢true, and_from, and_parts, get_or_from_slice_get, slice_get-get_or, same_Some, Plan}
 use Rattle.port_objects.specs.declared.object.Object.{Object}
-use Rattle.port_objects.specs.Objects.{kept_of}
-use Rattle.port_objects.specs.Waking.{IsClosed}
+use Rattle.port_objects.specs.Common.{kept_of, IsClosed}
 use Rattle.task_machine.specs.declared.instr.TaskSet.{TaskSet}
 use Rattle.task_slots.specs.declared.slot.Slot.{Slot}
 use Rattle.core_turn.specs.Awake.{AwakeState, ComesBefore, MaySleep, IsWaiting, WaitersHeld, with_slots, waits_for, IsFirstWaiter, FirstIs, FirstWakes, woken_at, StartsHeld}

@@ -1,19 +1,10 @@
 -- A new core has its slots, is ready for turns, and stands for no entry.
-use Rattle.std.proofs.Common.{◌≡◌, ℕ, zero, suc, ◌+◌, ◌^◌, ◌<◌, ◌≤◌, Bool, true, false, ◌&&◌, ◌==◌, if◌then◌else◌, refl, sym, ◌∙◌, ap, subst, arith, List, [], ◌∷◌, ◌++◌, length, map, take, get_or, Some}
+use Rattle.std.proofs.Common.{◌≡◌, ℕ, zero, suc, ◌+◌, ◌^◌, ◌<◌, ◌≤◌, Bool, true, false, ◌&&◌, ◌==◌, if◌then◌else◌, refl, sym, ◌∙◌, ap, subst, arith, List, [], ◌∷◌, ◌++◌, length, map, take}
+use Rattle.std.proofs.Common.{get_or, Some}
 use Rattle.std.specs.Prelude.{filter, nat_lt, nat_le}
-use Rattle.std.specs.List.{list_all, slice_get}
-use Rattle.std.proofs.lemmas.List.{take_more, append-nil}
-use Rattle.std.proofs.lemmas.List.Elements.{filter-append}
-use Rattle.std.proofs.lemmas.Bool.{and_parts, eq-eqb, eqb-true, leb-true}
-use Rattle.bus_semantics.specs.Objects.{clock}
-use Rattle.bus_semantics.specs.declared.script.Mapping.{Mapping}
-use Rattle.bus_semantics.specs.declared.script.Task.{Task}
-use Rattle.bus_semantics.specs.Plan.{Plan, positions}
-use Rattle.bus_semantics.specs.History.{count}
-use Rattle.bus_semantics.specs.Rest.{gathered}
-use Rattle.bus_semantics.specs.SoundNames.{is_name}
-use Rattle.bus_semantics.specs.SoundPlan.{things}
-use Rattle.bus_semantics.specs.Sound.{IsSound}
+use Rattle.bus_semantics.specs.Common.{list_all, slice_get, take_more, append-nil, filter-append, and_parts, eq-eqb, eqb-true, leb-true, clock, Plan, positions, count, gathered, is_name}
+use Rattle.bus_semantics.specs.Common.{things, IsSound}
+use Rattle.bus_laws.specs.Common.{Mapping, Task}
 use Rattle.task_machine.specs.declared.instr.TaskSet.{TaskSet}
 use Rattle.task_slots.specs.declared.slot.Slot.{Slot}
 use Rattle.task_slots.specs.declared.slot.Slot.TheVariants as of

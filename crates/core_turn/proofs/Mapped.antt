@@ -1,21 +1,9 @@
 -- Each event of a runnable is in the one task that has events of the runnable.
 use Rattle.std.proofs.Common.{◌≡◌, ℕ, ◌<◌, ◌≤◌, true, ◌&&◌, ◌==◌, if◌then◌else◌, refl, sym, ◌∙◌, ap, subst, arith, List, length, Option, Some, None}
 use Rattle.std.specs.Prelude.{nat_lt, is_some}
-use Rattle.std.specs.List.{list_all, list_any, slice_get}
-use Rattle.std.proofs.lemmas.Bool.{and_from, and_parts, eq-eqb, eqb-true, ltb-true}
-use Rattle.std.proofs.lemmas.Map.Keys.{any_passes_from_place}
-use Rattle.std.proofs.lemmas.Option.{same_Some}
-use Rattle.rte_value.specs.Values.{same_number}
-use Rattle.bus_semantics.specs.declared.plan.EventPlan.{EventPlan}
-use Rattle.bus_semantics.specs.declared.plan.EventKind.{EventKind}
-use Rattle.bus_semantics.specs.declared.plan.EventKind.TheVariants.{Timing, Init, DataReceived, Invoked, Returns, ModeSwitch, Ack}
-use Rattle.bus_semantics.specs.declared.script.Mapping.{Mapping}
-use Rattle.bus_semantics.specs.declared.script.Task.{Task}
-use Rattle.bus_semantics.specs.Plan.{Plan, queue_of, kind_of, runnable_of_event}
-use Rattle.bus_semantics.specs.History.{count}
-use Rattle.bus_semantics.specs.Rest.{plain_key}
-use Rattle.bus_semantics.specs.SoundNames.{is_name}
-use Rattle.bus_semantics.specs.Sound.{mapped_events, times_mapped, IsSound}
+use Rattle.bus_semantics.specs.Common.{list_all, list_any, slice_get, and_from, and_parts, eq-eqb, eqb-true, ltb-true, any_passes_from_place, same_Some, same_number, Plan, queue_of, kind_of}
+use Rattle.bus_semantics.specs.Common.{runnable_of_event, count, plain_key, is_name, mapped_events, times_mapped, IsSound}
+use Rattle.bus_laws.specs.Common.{EventPlan, EventKind, Timing, Init, DataReceived, Invoked, Returns, ModeSwitch, Ack, Mapping, Task}
 use Rattle.bus_laws.proofs.OneEvent.{kind_at}
 use Rattle.bus_laws.proofs.Thinning.{option_test}
 use Rattle.history_laws.specs.LookUps.{all_at, at_place}

@@ -1,9 +1,6 @@
 -- The order of slots, and what stands at the places of a list in which one was set.
 use Rattle.std.proofs.Common.{◌≡◌, ◌≢◌, ◌⊎◌, inl, inr, ℕ, zero, suc, ◌<◌, ◌≤◌, ◌==◌, Bool, true, false, refl, sym, ◌∙◌, ap, arith, List, [], ◌∷◌, set, Option, Some}
-use Rattle.std.specs.List.{slice_get}
-use Rattle.std.specs.Cmp.{unsigned_Decides}
-use Rattle.std.proofs.lemmas.Bool.{cases_lt, false≢true}
-use Rattle.std.proofs.lemmas.Option.{get_or_from_slice_get}
+use Rattle.bus_semantics.specs.Common.{slice_get, unsigned_Decides, cases_lt, false≢true, get_or_from_slice_get}
 use Rattle.place_set.specs.Places.{NoneBetween}
 use Rattle.core_turn.specs.Awake.{ComesBefore, onward, around, behind}
 

@@ -1,18 +1,14 @@
 -- Slots that are passed one after the other.
 use Rattle.std.proofs.Common.{◌≡◌, ℕ, ◌+◌, ◌-◌, ◌<◌, ◌≤◌, refl, sym, ◌∙◌, ap, subst, arith, List, [], ◌∷◌, ◌++◌, length, take, drop, set, get_or, length-drop, Some}
-use Rattle.std.specs.List.{slice_get}
-use Rattle.std.proofs.lemmas.List.{take_more, take-take, take-append-drop, get_or-drop, set-get_or}
-use Rattle.std.proofs.lemmas.Option.{slice_get-get_or}
+use Rattle.bus_semantics.specs.Common.{slice_get, take_more, take-append-drop, slice_get-get_or, Plan, gathered}
+use Rattle.std.proofs.lemmas.List.{take-take, get_or-drop, set-get_or}
 use Rattle.bus_semantics.specs.declared.entries.Stamped.{Stamped}
-use Rattle.bus_semantics.specs.Plan.{Plan}
-use Rattle.bus_semantics.specs.Rest.{gathered}
 use Rattle.port_objects.specs.Benches.{Told}
 use Rattle.task_machine.specs.declared.instr.TaskSet.{TaskSet}
 use Rattle.task_slots.specs.declared.slot.Slot.{Slot}
-use Rattle.task_slots.specs.Look.{Look, Made, Nothing, Contended}
+use Rattle.task_slots.specs.Common.{Look, Made, Nothing, Contended, Looked}
 use Rattle.task_slots.specs.Slots.{slot_tries, looks}
 use Rattle.core_turn.specs.Cores.{slots_between, looks_in}
-use Rattle.task_slots.specs.Looking.{Looked}
 use Rattle.task_slots.specs.Stepping.{SlotStep}
 use Rattle.core_turn.specs.Turning.{PassMade}
 use Rattle.task_slots.proofs.Onward.{looked_on, looked_as, looked_uncounted, looked_none, lost_more, gathered_on, gathered_one}

@@ -1,10 +1,7 @@
 -- Where items stand in lists: in a mapped one, in a kept part, in one that was gathered.
 use Rattle.std.proofs.Common.{◌≡◌, ℕ, zero, suc, ◌≤◌, Bool, true, false, ◌||◌, if◌then◌else◌, refl, sym, ◌∙◌, ap, subst, arith, List, [], ◌∷◌, map, Some}
 use Rattle.std.specs.Prelude.{filter}
-use Rattle.std.specs.List.{list_any, list_all, slice_get}
-use Rattle.std.proofs.lemmas.Bool.{and_from, false≢true}
-use Rattle.bus_semantics.specs.History.{count}
-use Rattle.bus_semantics.specs.Rest.{gathered}
+use Rattle.bus_semantics.specs.Common.{list_any, list_all, slice_get, and_from, false≢true, count, gathered}
 use Rattle.task_slots.proofs.Onward.{count_on}
 
 -- an item of a list

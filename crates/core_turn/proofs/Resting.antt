@@ -1,36 +1,14 @@
 -- A core of whose slots nothing may come is at rest.
 use Rattle.std.proofs.Common.{◌≡◌, ℕ, zero, suc, Bool, true, false, not, ◌&&◌, ◌||◌, ◌==◌, if◌then◌else◌, refl, sym, ◌∙◌, ap, subst, List, [], ◌∷◌, ◌++◌, map, length, Option, Some, None}
 use Rattle.std.specs.Prelude.{is_some, is_none, unwrap_or, nat_lt}
-use Rattle.std.specs.List.{list_any, slice_get}
-use Rattle.std.specs.Option.{option_map}
-use Rattle.std.proofs.lemmas.Bool.{and_from, and_parts, eq-eqb, eqb-true, false≢true, or_right}
-use Rattle.std.proofs.lemmas.Map.Keys.{any_passes_from_place}
-use Rattle.std.proofs.lemmas.Option.{same_Some, slice_get-map}
-use Rattle.rte_value.specs.declared.kinds.ActKey.{ActKey}
-use Rattle.rte_value.specs.Values.{same_number, same_key}
-use Rattle.bus_semantics.specs.declared.plan.EventKind.{EventKind}
-use Rattle.bus_semantics.specs.declared.plan.EventKind.TheVariants.{Timing, Init, DataReceived, Invoked, Returns, ModeSwitch, Ack}
-use Rattle.bus_semantics.specs.declared.entries.Actor.{Actor}
-use Rattle.bus_semantics.specs.declared.entries.Actor.TheVariants.{Env, Machine, Act}
-use Rattle.bus_semantics.specs.declared.entries.Deed.{Deed}
+use Rattle.bus_semantics.specs.Common.{list_any, slice_get, option_map, and_from, and_parts, eq-eqb, eqb-true, false≢true, or_right, any_passes_from_place, same_Some, slice_get-map, ActKey}
+use Rattle.bus_semantics.specs.Common.{same_number, same_key, Plan, positions, kind_of, server_of, queue_of, caller_of, runnable_of_event, Wanted, to_start, to_move_on, wanted_by, History}
+use Rattle.bus_semantics.specs.Common.{Noted, Past, needs_event, started_before, note, noted, runs, last_started, served_by, object_of, touched_by, touches, entries_of, key_fits}
+use Rattle.bus_semantics.specs.Common.{serves_directly, wish_fits, answer_fits, activation_fits, next_wish, direct_key, asked_last, is_held_back, is_this, is_wanted_next, may_start}
+use Rattle.bus_semantics.specs.Common.{caller_has_asked, starts_or_goes_on, follows_program, has_unstarted, counts_for, is_due, is_due_kind, due_allows, MayFollow, IsLegal, is_start, Try}
+use Rattle.bus_semantics.specs.Common.{plain_key, option_list, gathered, direct_try, event_runs, start_try, IsStuck, AllStuck, Follows, IsPastOf, IsSound, times_mapped}
+use Rattle.bus_laws.specs.Common.{EventKind, Timing, Init, DataReceived, Invoked, Returns, ModeSwitch, Ack, Actor, Env, Machine, Act, Deed, Entry, Mapping, Task}
 use Rattle.bus_semantics.specs.declared.entries.Deed.TheVariants as deed
-use Rattle.bus_semantics.specs.declared.entries.Entry.{Entry}
-use Rattle.bus_semantics.specs.declared.script.Mapping.{Mapping}
-use Rattle.bus_semantics.specs.declared.script.Task.{Task}
-use Rattle.bus_semantics.specs.Plan.{Plan, positions, kind_of, server_of, queue_of, caller_of, runnable_of_event}
-use Rattle.bus_semantics.specs.Wanted.{Wanted, to_start, to_move_on, wanted_by}
-use Rattle.bus_semantics.specs.History.{History, Noted, Past, needs_event, started_before, note, noted, runs, last_started}
-use Rattle.bus_semantics.specs.Objects.{served_by, object_of, touched_by, touches, entries_of}
-use Rattle.bus_semantics.specs.Owners.{key_fits, serves_directly}
-use Rattle.bus_semantics.specs.Fitting.{wish_fits, answer_fits, activation_fits}
-use Rattle.bus_semantics.specs.Actor.{next_wish, direct_key, asked_last, is_held_back, is_this, is_wanted_next, may_start, caller_has_asked, starts_or_goes_on, follows_program}
-use Rattle.bus_semantics.specs.Calls.{has_unstarted}
-use Rattle.bus_semantics.specs.Due.{counts_for, is_due, is_due_kind}
-use Rattle.bus_semantics.specs.Legal.{due_allows, MayFollow, IsLegal}
-use Rattle.bus_semantics.specs.Asked.{is_start}
-use Rattle.bus_semantics.specs.Rest.{Try, plain_key, option_list, gathered, direct_try, event_runs, start_try, IsStuck, AllStuck}
-use Rattle.bus_semantics.specs.Pasts.{Follows, IsPastOf}
-use Rattle.bus_semantics.specs.Sound.{IsSound, times_mapped}
 use Rattle.bus_laws.proofs.OneEvent.{invoked_serves}
 use Rattle.bus_laws.proofs.Thinning.{option_same, option_test}
 use Rattle.history_laws.specs.LookUps.{clash}
@@ -39,10 +17,7 @@ use Rattle.history_laws.specs.Running.{GoesOn}
 use Rattle.history_laws.proofs.Keys.{wish_runs}
 use Rattle.history_laws.proofs.OpenCalls.{kept_at}
 use Rattle.port_objects.specs.declared.object.Object.{Object}
-use Rattle.port_objects.specs.Kept.{Kept}
-use Rattle.port_objects.specs.Objects.{kept_of}
-use Rattle.port_objects.specs.Standing.{Stands}
-use Rattle.port_objects.specs.Leading.{lead}
+use Rattle.port_objects.specs.Common.{Kept, kept_of, Stands, lead}
 use Rattle.task_machine.specs.declared.instr.TaskSet.{TaskSet}
 use Rattle.task_machine.specs.Standing.{Standing}
 use Rattle.task_generator.specs.Promise.{AsksAsPlanned}

@@ -1,23 +1,16 @@
 -- Looks at the slots of a core that are awake, one after the other.
 use Rattle.std.proofs.Common.{◌≡◌, ℕ, suc, ◌+◌, ◌-◌, ◌<◌, ◌≤◌, drop, Bool, true, false, refl, sym, ◌∙◌, ap, subst, arith, List, length, get_or, set, inl, inr, Option, Some, None}
-use Rattle.std.specs.List.{slice_get}
-use Rattle.std.proofs.lemmas.Bool.{cases_lt}
-use Rattle.std.proofs.lemmas.Option.{slice_get-get_or, slice_get_read, slice_get_within}
+use Rattle.bus_semantics.specs.Common.{slice_get, cases_lt, slice_get-get_or, slice_get_read, slice_get_within, Plan, touched_by, gathered}
 use Rattle.bus_semantics.specs.declared.entries.Stamped.{Stamped}
-use Rattle.bus_semantics.specs.Plan.{Plan}
-use Rattle.bus_semantics.specs.Objects.{touched_by}
 use Rattle.port_objects.specs.declared.object.Object.{Object}
 use Rattle.place_set.specs.Places.{NoneBetween}
 use Rattle.task_machine.specs.declared.instr.TaskSet.{TaskSet}
 use Rattle.task_slots.specs.declared.slot.Slot.{Slot}
-use Rattle.task_slots.specs.Look.{Made}
+use Rattle.task_slots.specs.Common.{Made, ObjectsLooked, EventsHeld, noting_of}
 use Rattle.task_slots.specs.Slots.{slot_tries, events_of_slot}
-use Rattle.task_slots.specs.Looking.{ObjectsLooked}
-use Rattle.bus_semantics.specs.Rest.{gathered}
 use Rattle.core_turn.specs.Cores.{slots_between}
 use Rattle.core_turn.specs.Awake.{AwakeState, Fits, AreHeld, HeldTold, IsSettled}
-use Rattle.task_slots.specs.Waiting.{flags, is_free, EventsHeld}
-use Rattle.task_slots.specs.Stepping.{noting_of}
+use Rattle.task_slots.specs.Waiting.{flags, is_free}
 use Rattle.task_slots.proofs.Unchanged.{TriesHeld, gathered_held, taken, dropped}
 use Rattle.core_turn.proofs.Awakes.{asleep_held, with_rows, starts_row, starts_settled, starts_stepped, fits_settled, fits_row, fits_stepped}
 use Rattle.core_turn.proofs.Waiters.{AlikeLaw, touches_own, waiters_onward, waiters_round, waiters_settled, waiters_stepped}

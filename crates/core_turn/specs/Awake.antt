@@ -1,21 +1,15 @@
 -- Which slots and events of a core may step. What sleeps is held: no start of it and no phase may come, as the objects are; and an activation
 -- that waits at an area may not enter it, or another that waits there is awake and is tried before it.
 use Rattle.std.specs.Prelude.{◌≡◌, ◌<◌, ◌≤◌, ◌⊎◌, ◌++◌, ◌∷◌, [], ℕ, suc, List, Bool, true, false, ◌&&◌, ◌==◌, if◌then◌else◌, length, map, replicate, set, slice_get, slice_index_or, Option, Some, None}
-use Rattle.std.specs.Option.{option_map_or}
+use Rattle.bus_semantics.specs.Common.{option_map_or, Plan, touched_by, start_try}
 use Rattle.bus_semantics.specs.declared.entries.Stamped.{Stamped}
-use Rattle.bus_semantics.specs.Plan.{Plan}
-use Rattle.bus_semantics.specs.Objects.{touched_by}
-use Rattle.bus_semantics.specs.Rest.{start_try}
 use Rattle.port_objects.specs.declared.object.Object.{Object}
-use Rattle.port_objects.specs.Objects.{kept_of}
-use Rattle.port_objects.specs.Waking.{IsClosed}
-use Rattle.port_objects.specs.Benches.{Work, IsFurther}
+use Rattle.port_objects.specs.Common.{kept_of, IsClosed, Work, IsFurther}
 use Rattle.task_machine.specs.declared.instr.TaskSet.{TaskSet}
 use Rattle.task_slots.specs.declared.slot.Slot.{Slot}
 use Rattle.task_slots.specs.Slots.{events_of_slot, slot_tries}
-use Rattle.task_slots.specs.Looking.{AllHeld}
-use Rattle.task_slots.specs.Stepping.{noting_of}
-use Rattle.task_slots.specs.Waiting.{is_free, idle_tries, WaitsAt, HearsAt, flags, sum_below, looks_awake}
+use Rattle.task_slots.specs.Common.{AllHeld, noting_of, sum_below}
+use Rattle.task_slots.specs.Waiting.{is_free, idle_tries, WaitsAt, HearsAt, flags, looks_awake}
 use Rattle.core_turn.specs.declared.passed.Passed.{Passed}
 use Rattle.core_turn.specs.declared.passed.Passed.TheVariants as pass
 use Rattle.core_turn.specs.declared.turning.Turned.{Turned}

@@ -1,8 +1,6 @@
 -- What a core keeps, and the order in which it looks at its slots.
 use Rattle.std.specs.Prelude.{◌≡◌, ℕ, zero, suc, ◌+◌, ◌-◌, List, [], ◌∷◌, ◌++◌, take, drop, map, filter, length, ◌==◌, nat_le, if◌then◌else◌}
-use Rattle.bus_semantics.specs.declared.script.Mapping.{Mapping}
-use Rattle.bus_semantics.specs.declared.script.Task.{Task}
-use Rattle.bus_semantics.specs.declared.entries.Stamped.{Stamped}
+use Rattle.bus_laws.specs.Common.{Mapping, Task, Stamped}
 use Rattle.bus_semantics.specs.Plan.{Plan, positions}
 use Rattle.task_slots.specs.declared.slot.Slot.{Slot}
 use Rattle.task_slots.specs.Slots.{Table, of_task, of_machine, table_of, looks}

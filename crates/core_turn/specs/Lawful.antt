@@ -1,13 +1,9 @@
 -- Cores and objects that are lawful for a history.
 use Rattle.std.specs.Prelude.{◌≡◌, ℕ, suc, List, length, Some, slice_get}
 use Rattle.bus_semantics.specs.declared.script.Mapping.{Mapping}
-use Rattle.bus_semantics.specs.Plan.{Plan}
-use Rattle.bus_semantics.specs.History.{History}
-use Rattle.bus_semantics.specs.Objects.{entries_of, clock}
-use Rattle.bus_semantics.specs.Legal.{IsLegal}
+use Rattle.bus_semantics.specs.Common.{Plan, History, entries_of, clock, IsLegal}
 use Rattle.port_objects.specs.declared.object.Object.{Object}
-use Rattle.port_objects.specs.Objects.{kept_of}
-use Rattle.port_objects.specs.Standing.{Stands}
+use Rattle.port_objects.specs.Common.{kept_of, Stands}
 use Rattle.task_machine.specs.declared.instr.TaskSet.{TaskSet}
 use Rattle.core_turn.specs.Cores.{CoreState}
 use Rattle.core_turn.specs.Ready.{IsReady}

@@ -1,14 +1,9 @@
 -- A core at rest: what is tried at rest of the tasks of the core, with the direct activations that they call, and of its mode machines; and that
 -- nothing of it may follow. Its words are those of rest.
 use Rattle.std.specs.Prelude.{ℕ, zero, suc, List, ◌∷◌, ◌++◌, [], length, if◌then◌else◌}
-use Rattle.rte_value.specs.declared.kinds.ActKey.{ActKey}
-use Rattle.bus_semantics.specs.declared.script.Mapping.{Mapping}
-use Rattle.bus_semantics.specs.declared.script.Task.{Task}
-use Rattle.bus_semantics.specs.declared.entries.Actor.TheVariants.{Act}
-use Rattle.bus_semantics.specs.Plan.{Plan, positions, caller_of, runnable_of_event}
-use Rattle.bus_semantics.specs.History.{History}
-use Rattle.bus_semantics.specs.Actor.{next_wish, direct_key}
-use Rattle.bus_semantics.specs.Rest.{Try, plain_key, option_list, gathered, direct_try, machine_tries, task_tries, AllStuck}
+use Rattle.bus_semantics.specs.Common.{ActKey, Plan, positions, caller_of, runnable_of_event, History, next_wish, direct_key, Try, plain_key, option_list, gathered, direct_try}
+use Rattle.bus_semantics.specs.Common.{machine_tries, task_tries, AllStuck}
+use Rattle.bus_laws.specs.Common.{Mapping, Task, Act}
 use Rattle.task_slots.specs.Slots.{starts_at}
 use Rattle.core_turn.specs.Cores.{tasks_of_core}
 

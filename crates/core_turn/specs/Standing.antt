@@ -1,7 +1,6 @@
 -- A core stands for a history: each of its slots does.
 use Rattle.std.specs.Prelude.{◌≡◌, ℕ, Some, slice_get}
-use Rattle.bus_semantics.specs.Plan.{Plan}
-use Rattle.bus_semantics.specs.History.{History}
+use Rattle.bus_semantics.specs.Common.{Plan, History}
 use Rattle.task_machine.specs.declared.instr.TaskSet.{TaskSet}
 use Rattle.task_slots.specs.declared.slot.Slot.{Slot}
 use Rattle.task_slots.specs.Standing.{SlotStands}

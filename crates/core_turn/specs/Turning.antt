@@ -2,9 +2,7 @@
 -- this project's own).
 use Rattle.std.specs.Prelude.{◌≡◌, ℕ, suc, ◌<◌, ◌≤◌, List, [], ◌∷◌, ◌++◌, set, slice_get, true, Option, Some, None}
 use Rattle.bus_semantics.specs.declared.entries.Stamped.{Stamped}
-use Rattle.bus_semantics.specs.Plan.{Plan}
-use Rattle.bus_semantics.specs.History.{History}
-use Rattle.bus_semantics.specs.Rest.{gathered}
+use Rattle.bus_semantics.specs.Common.{Plan, History, gathered}
 use Rattle.port_objects.specs.declared.object.Object.{Object}
 use Rattle.port_objects.specs.Benches.{IsFurther, StampAfter, Told}
 use Rattle.task_machine.specs.declared.instr.TaskSet.{TaskSet}

@@ -1,9 +1,7 @@
 //! A core.
 
 ghost use Rattle.std.specs.Prelude.{◌≡◌, ◌+◌, ◌^◌, ◌<◌, ◌≤◌, suc, [], length, IfOk, OnOk, min};
-ghost use Rattle.std.specs.Vec.{vec_capacity};
-ghost use Rattle.bus_semantics.specs.Plan.{Plan, plan_of};
-ghost use Rattle.bus_semantics.specs.Sound.{IsSound};
+ghost use Rattle.bus_semantics.specs.Common.{vec_capacity, Plan, plan_of, IsSound};
 ghost use Rattle.core_turn.specs.Cores.{HasSlots};
 ghost use Rattle.core_turn.specs.Ready.{IsReady};
 ghost use Rattle.core_turn.specs.Standing.{CoreStands};

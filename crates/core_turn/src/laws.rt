@@ -1,17 +1,10 @@
 //! Laws of turns.
 
 ghost use Rattle.std.specs.Prelude.{◌≡◌, ◌≢◌, ◌<◌, ℕ, List, ◌∷◌, set, true, false, Option, Some, None, slice_get};
-ghost use Rattle.bus_semantics.specs.declared.script.Mapping.{Mapping};
-ghost use Rattle.bus_semantics.specs.declared.entries.Entry.{Entry};
-ghost use Rattle.bus_semantics.specs.declared.entries.Stamped.{Stamped};
-ghost use Rattle.bus_semantics.specs.Plan.{Plan};
-ghost use Rattle.bus_semantics.specs.History.{History, Noted, is_environment};
-ghost use Rattle.bus_semantics.specs.Legal.{IsLegal};
-ghost use Rattle.bus_semantics.specs.Rest.{IsAtRest};
+ghost use Rattle.bus_laws.specs.Common.{Mapping, Entry, Stamped};
+ghost use Rattle.bus_semantics.specs.Common.{Plan, History, Noted, is_environment, IsLegal, IsAtRest, IsSound};
 ghost use Rattle.port_objects.specs.declared.object.Object.{Object};
-ghost use Rattle.port_objects.specs.Leading.{lead};
-ghost use Rattle.port_objects.specs.Objects.{kept_of};
-ghost use Rattle.port_objects.specs.Waking.{is_leave};
+ghost use Rattle.port_objects.specs.Common.{lead, kept_of, is_leave, Told};
 ghost use Rattle.task_machine.specs.declared.instr.TaskSet.{TaskSet};
 ghost use Rattle.task_slots.specs.declared.slot.Slot.{Slot};
 ghost use Rattle.task_slots.specs.Stepping.{IsOwn};
@@ -20,10 +13,8 @@ ghost use Rattle.task_generator.specs.Promise.{AsksAsPlanned};
 ghost use Rattle.core_turn.specs.Cores.{CoreState};
 ghost use Rattle.core_turn.specs.Ready.{IsReady};
 ghost use Rattle.core_turn.specs.Standing.{CoreStands};
-ghost use Rattle.port_objects.specs.Benches.{Told};
 ghost use Rattle.core_turn.specs.Turning.{StepsApart, NothingComes};
 ghost use Rattle.core_turn.specs.Lawful.{IsLawful};
-ghost use Rattle.bus_semantics.specs.Sound.{IsSound};
 ghost use Rattle.core_turn.specs.Resting.{CoreRests};
 
 use history_laws::{

@@ -1,12 +1,10 @@
 //! Looks at the slots of a core.
 
 ghost use Rattle.std.specs.Prelude.{◌≡◌, ◌<◌, ◌≤◌, ℕ, length, Some, slice_get};
-ghost use Rattle.std.specs.Vec.{vec_capacity};
+ghost use Rattle.bus_semantics.specs.Common.{vec_capacity, plan_of, IsSound};
 ghost use Rattle.bus_semantics.specs.declared.script.Mapping.{Mapping};
-ghost use Rattle.bus_semantics.specs.Plan.{plan_of};
 ghost use Rattle.task_generator.specs.Promise.{AsksAsPlanned};
 ghost use Rattle.task_slots.specs.declared.slot.Slot.{Slot};
-ghost use Rattle.bus_semantics.specs.Sound.{IsSound};
 ghost use Rattle.task_slots.specs.Ready.{IsReadySlot};
 ghost use Rattle.core_turn.specs.Cores.{slots_between, looks_in};
 ghost use Rattle.core_turn.specs.Turning.{IsPass};

@@ -1,21 +1,11 @@
 -- What a wish makes of a seat.
 use Rattle.std.proofs.Common.{◌≡◌, ◌≤◌, ℕ, Bool, true, false, ◌&&◌, if◌then◌else◌, [], ◌∷◌, length, refl, sym, ◌∙◌, ap, subst, eqb-true, Option, Some, None}
-use Rattle.std.specs.Vec.{vec_capacity}
-use Rattle.rte_value.specs.Values.{same_number}
+use Rattle.bus_semantics.specs.Common.{vec_capacity, same_number, Plan, Noted, touches, touched_by, is_proper}
 use Rattle.atomic_table.specs.Seated.{TableId}
 use Rattle.bus_semantics.specs.declared.entries.Entry.{Entry}
 use Rattle.bus_semantics.specs.declared.entries.Stamped.{Stamped}
-use Rattle.bus_semantics.specs.Plan.{Plan}
-use Rattle.bus_semantics.specs.History.{Noted}
-use Rattle.bus_semantics.specs.Objects.{touches, touched_by}
-use Rattle.port_objects.specs.Kept.{Kept}
-use Rattle.bus_semantics.specs.Locality.{is_proper}
-use Rattle.port_objects.specs.Leading.{lead, lead_by_kind}
-use Rattle.cross_core_table.specs.declared.views.Opening.{Opening}
-use Rattle.cross_core_table.specs.declared.views.Held.{Held}
-use Rattle.cross_core_table.specs.declared.views.View.{View}
-use Rattle.cross_core_table.specs.declared.seats.CoreSeat.{CoreSeat}
-use Rattle.cross_core_table.specs.Plays.{Sat, making, as_stamped, held_after}
+use Rattle.port_objects.specs.Common.{Kept, lead, lead_by_kind}
+use Rattle.cross_core_table.specs.Common.{Opening, Held, View, CoreSeat, Sat, making, as_stamped, held_after}
 use Rattle.cross_core_table.specs.Places.{IsHolding, IsToKeep}
 use Rattle.cross_core_table.specs.Seats.{IsSeatAt}
 use Rattle.cross_core_table.proofs.Logs.{kept_next}

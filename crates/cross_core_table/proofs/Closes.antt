@@ -1,25 +1,15 @@
 -- What the close of a round finds.
 use Rattle.std.proofs.Common.{◌≡◌, ◌<◌, ◌≤◌, ◌+◌, ◌*◌, ℕ, zero, suc, List, [], ◌∷◌, ◌++◌, Bool, false, set, take, map, length, get_or, slice_get, refl, sym, ◌∙◌, ap, subst, arith, Some}
-use Rattle.std.proofs.lemmas.List.{length-map}
+use Rattle.bus_semantics.specs.Common.{length-map, IsInterleaved}
 use mathlib.Core.Option.{some, some-injective, some-ne-none}
 use lib.ListN.{get_elem?}
 use Rattle.atomic_table.specs.Table.{Final, Seen}
 use Rattle.bus_semantics.specs.declared.entries.Stamped.{Stamped}
-use Rattle.bus_semantics.specs.Interleaving.{IsInterleaved}
 use Rattle.port_objects.specs.declared.object.Object.{Object}
 use Rattle.port_objects.specs.Objects.{ArePlans, IsOfPlan}
-use Rattle.cross_core_table.specs.declared.views.Opening.{Opening}
-use Rattle.cross_core_table.specs.declared.views.Part.{Part}
-use Rattle.cross_core_table.specs.declared.views.View.{View}
-use Rattle.cross_core_table.specs.declared.seats.CoreSeat.{CoreSeat}
-use Rattle.cross_core_table.specs.OpenRounds.{OpenRound}
-use Rattle.cross_core_table.specs.Logs.{plan_in}
-use Rattle.cross_core_table.specs.Rules.{Table, RoundRule}
-use Rattle.cross_core_table.specs.Plays.{part_of_view}
-use Rattle.cross_core_table.specs.Places.{Place}
-use Rattle.cross_core_table.specs.Seats.{AreSeatsOf, made_of, view_of}
-use Rattle.cross_core_table.specs.Closing.{Among, HasAll, IsWhole, IsLedHome, IsLed, IsClosed, RoundsEndWhole}
-use Rattle.cross_core_table.specs.Taking.{HasTaken, TakenIn}
+use Rattle.cross_core_table.specs.Common.{Opening, Part, View, CoreSeat, OpenRound, plan_in, Table, RoundRule, part_of_view, Place, AreSeatsOf, made_of, view_of, Among, HasAll, IsWhole}
+use Rattle.cross_core_table.specs.Common.{HasTaken, TakenIn}
+use Rattle.cross_core_table.specs.Closing.{IsLedHome, IsLed, IsClosed, RoundsEndWhole}
 use Rattle.cross_core_table.proofs.Seating.{is_first}
 use Rattle.cross_core_table.proofs.Takings.{is_taker, all_taken, among_all}
 

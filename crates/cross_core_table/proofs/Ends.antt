@@ -1,31 +1,20 @@
 -- How a round ends: its log in order of stamps, and all objects at home.
-use Rattle.std.proofs.Common.{◌≡◌, ◌<◌, ◌≤◌, ◌+◌, ◌-◌, ◌*◌, ◌==◌, ℕ, zero, suc, Bool, true, false, ◌&&◌, is_some, if◌then◌else◌, List, [], ◌∷◌, ◌++◌, map, length, length-append, refl, sym, ◌∙◌, ap, subst, ⊎_elim, ◌⊎◌, arith, eq-eqb, lt-ltb, filter, slice_get, nat_lt, Option, Some, None, option_and_then}
-use Rattle.std.proofs.lemmas.Bool.{and_parts}
-use Rattle.std.proofs.lemmas.List.{map-append, length-map}
+use Rattle.std.proofs.Common.{◌≡◌, ◌<◌, ◌≤◌, ◌+◌, ◌-◌, ◌*◌, ◌==◌, ℕ, zero, suc, Bool, true, false, ◌&&◌, is_some, if◌then◌else◌, List, [], ◌∷◌, ◌++◌, map, length, length-append, refl, sym}
+use Rattle.std.proofs.Common.{◌∙◌, ap, subst, ⊎_elim, ◌⊎◌, arith, eq-eqb, lt-ltb, filter, slice_get, nat_lt, Option, Some, None, option_and_then}
+use Rattle.bus_semantics.specs.Common.{and_parts, map-append, length-map, Plan, every_from, positions, Noted, Past, touches, Logged, part_of, stamps_count, IsInterleaved, past_of}
 use mathlib.Core.Logic.{dite}
 use native.Mathlib.Decide.{ℕ_discrete}
 use mathlib.Core.Option.{some, some-injective}
 use lib.ListN.{get_elem?}
 use Rattle.bus_semantics.specs.declared.entries.Stamped.{Stamped}
-use Rattle.bus_semantics.specs.Plan.{Plan, every_from, positions}
-use Rattle.bus_semantics.specs.History.{Noted, Past}
-use Rattle.bus_semantics.specs.Objects.{touches}
-use Rattle.bus_semantics.specs.Interleaving.{Logged, part_of, stamps_count, IsInterleaved, past_of}
 use Rattle.object_kinds.proofs.Options.{then_some}
 use Rattle.object_kinds.proofs.Lists.{mapped_at}
 use Rattle.object_kinds.proofs.Positions.{length_positions}
 use Rattle.port_objects.specs.declared.object.Object.{Object}
-use Rattle.port_objects.specs.Kept.{Kept}
-use Rattle.port_objects.specs.Leading.{lead, leads}
-use Rattle.port_objects.specs.Objects.{kept_of}
-use Rattle.port_objects.specs.Standing.{Stands}
-use Rattle.cross_core_table.specs.declared.views.Opening.{Opening}
-use Rattle.cross_core_table.specs.declared.views.Held.{Held}
-use Rattle.cross_core_table.specs.declared.views.Part.{Part}
-use Rattle.cross_core_table.specs.declared.views.View.{View}
-use Rattle.cross_core_table.specs.Logs.{noted_as, on_object, made_by, AreCounted, AreOf, plan_in, kept_after}
-use Rattle.cross_core_table.specs.Rules.{Table, word_of, IsSpent, AreJoined, IsAtHome, IsTaken, RoundRule}
-use Rattle.cross_core_table.specs.Closing.{touching, Among, HasAll, IsWhole}
+use Rattle.port_objects.specs.Common.{Kept, lead, leads, kept_of, Stands}
+use Rattle.cross_core_table.specs.Common.{Opening, Held, Part, View, noted_as, on_object, made_by, AreCounted, AreOf, plan_in, kept_after, Table, word_of, IsSpent, AreJoined, IsAtHome}
+use Rattle.cross_core_table.specs.Common.{IsTaken, RoundRule, Among, HasAll, IsWhole}
+use Rattle.cross_core_table.specs.Closing.{touching}
 use Rattle.cross_core_table.proofs.Lists.{at_within}
 use Rattle.cross_core_table.proofs.Logs.{log_within}
 

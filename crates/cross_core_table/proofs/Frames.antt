@@ -5,17 +5,12 @@ use native.Mathlib.Decide.{ℕ_discrete}
 use mathlib.Core.Option as option
 use mathlib.Core.Option.{some, some-injective}
 use lib.ListN.{get_elem?}
-use Rattle.std.proofs.lemmas.Bool.{false≢true}
+use Rattle.bus_semantics.specs.Common.{false≢true, Logged}
 use Rattle.atomic_table.proofs.Lists.{at_set, set_here, set_else}
 use Rattle.bus_semantics.specs.declared.entries.Stamped.{Stamped}
-use Rattle.bus_semantics.specs.Interleaving.{Logged}
 use Rattle.port_objects.specs.declared.object.Object.{Object}
-use Rattle.cross_core_table.specs.declared.views.Opening.{Opening}
-use Rattle.cross_core_table.specs.declared.views.Held.{Held}
-use Rattle.cross_core_table.specs.declared.views.Part.{Part}
-use Rattle.cross_core_table.specs.declared.views.View.{View}
-use Rattle.cross_core_table.specs.Logs.{on_object, made_by, AreCounted, AreOf, plan_in}
-use Rattle.cross_core_table.specs.Rules.{Table, word_of, IsHolding, Holds, Looked, IsSpent, AreJoined, IsSeated, IsAtHome, IsTaken, RoundRule}
+use Rattle.cross_core_table.specs.Common.{Opening, Held, Part, View, on_object, made_by, AreCounted, AreOf, plan_in, Table, word_of, IsHolding, Holds, Looked, IsSpent, AreJoined, IsSeated}
+use Rattle.cross_core_table.specs.Common.{IsAtHome, IsTaken, RoundRule}
 use Rattle.cross_core_table.proofs.Lists.{at_within}
 use Rattle.cross_core_table.proofs.Parts.{before_set, once_kept, alone_kept}
 

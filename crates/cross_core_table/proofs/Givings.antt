@@ -3,12 +3,7 @@ use Rattle.std.proofs.Common.{◌≡◌, ◌≤◌, ℕ, zero, suc, List, [], �
 use Rattle.std.specs.Vec.{vec_capacity}
 use Rattle.atomic_table.specs.Seated.{TableId}
 use Rattle.bus_semantics.specs.declared.entries.Stamped.{Stamped}
-use Rattle.cross_core_table.specs.declared.views.Opening.{Opening}
-use Rattle.cross_core_table.specs.declared.seats.CoreSeat.{CoreSeat}
-use Rattle.cross_core_table.specs.OpenRounds.{OpenRound}
-use Rattle.cross_core_table.specs.Plays.{Sat, giving, newcomer}
-use Rattle.cross_core_table.specs.Seats.{IsSeatOf, view_of}
-use Rattle.cross_core_table.specs.Opened.{IsFresh, AreGiven}
+use Rattle.cross_core_table.specs.Common.{Opening, CoreSeat, OpenRound, Sat, giving, newcomer, IsSeatOf, view_of, IsFresh, AreGiven}
 use Rattle.cross_core_table.proofs.Acts.{same_seat}
 
 abbrev pub round_of : TableId → Opening → ℕ → OpenRound

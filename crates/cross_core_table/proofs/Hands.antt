@@ -5,11 +5,7 @@ use Rattle.atomic_table.specs.Table.{step, Allows}
 use Rattle.bus_semantics.specs.declared.entries.Entry.{Entry}
 use Rattle.bus_semantics.specs.Objects.{touched_by}
 use Rattle.port_objects.specs.declared.object.Object.{Object}
-use Rattle.cross_core_table.specs.declared.views.Opening.{Opening}
-use Rattle.cross_core_table.specs.declared.views.Held.{Held}
-use Rattle.cross_core_table.specs.Logs.{plan_in}
-use Rattle.cross_core_table.specs.Rules.{RoundRule}
-use Rattle.cross_core_table.specs.Plays.{Sat, held_of, holding, failing, LockedAt, stamped_on, stamped_off, unlocked, looked}
+use Rattle.cross_core_table.specs.Common.{Opening, Held, plan_in, RoundRule, Sat, held_of, holding, failing, LockedAt, stamped_on, stamped_off, unlocked, looked}
 use Rattle.cross_core_table.specs.Places.{IsIdle, IsHolding, HasTried}
 use Rattle.cross_core_table.proofs.Keeping.{stamps_on, stamps_off, unlocks, looks}
 

@@ -1,5 +1,6 @@
 -- Each atomic step on the words of a round keeps its rule, and tells its seat what its play says.
-use Rattle.std.proofs.Common.{◌≡◌, ◌≢◌, ◌<◌, ◌≤◌, ◌+◌, ◌%◌, ◌^◌, ℕ, suc, eqb, true, is_some, List, [], ◌∷◌, ◌++◌, length, length-append, length-set, set, get_or, get_or-set_same, get_or-set_other, refl, sym, ◌∙◌, ap, subst, arith, Option, Some, None}
+use Rattle.std.proofs.Common.{◌≡◌, ◌≢◌, ◌<◌, ◌≤◌, ◌+◌, ◌%◌, ◌^◌, ℕ, suc, eqb, true, is_some, List, [], ◌∷◌, ◌++◌, length, length-append, length-set, set, get_or, get_or-set_same}
+use Rattle.std.proofs.Common.{get_or-set_other, refl, sym, ◌∙◌, ap, subst, arith, Option, Some, None}
 use mathlib.Core.Logic.{dite}
 use native.Mathlib.Decide.{ℕ_discrete}
 use mathlib.Core.Option as option
@@ -11,16 +12,13 @@ use Rattle.atomic_table.specs.Table.{step, Act, keeps, takes, gives, Valid, carr
 use Rattle.atomic_table.proofs.Lists.{set_here, set_else, exchanged}
 use Rattle.bus_semantics.specs.declared.entries.Entry.{Entry}
 use Rattle.bus_semantics.specs.declared.entries.Stamped.{Stamped}
-use Rattle.bus_semantics.specs.Objects.{touched_by}
-use Rattle.bus_semantics.specs.Interleaving.{Logged}
+use Rattle.bus_semantics.specs.Common.{touched_by, Logged}
 use Rattle.port_objects.specs.declared.object.Object.{Object}
 use Rattle.port_objects.specs.Objects.{kept_of, IsOfPlan}
-use Rattle.cross_core_table.specs.declared.views.Opening.{Opening}
-use Rattle.cross_core_table.specs.declared.views.Held.{Held}
-use Rattle.cross_core_table.specs.declared.views.View.{View}
-use Rattle.cross_core_table.specs.Logs.{noted_as, on_object, made_by, plan_in, kept_after}
-use Rattle.cross_core_table.specs.Rules.{Table, word_of, IsHolding, Holds, Looked, Failed, IsSpent, AreJoined, IsAtHome, IsTaken, RoundRule}
-use Rattle.cross_core_table.specs.Plays.{Sat, held_of, holding, failing, making, letting_go, having_looked, LockedAt, locked, as_stamped, held_after, stamped_on, stamped_off, unlocked, looked}
+use Rattle.cross_core_table.specs.Common.{Opening, Held, View, noted_as, on_object, made_by, plan_in, kept_after, Table, word_of, IsHolding, Holds, Looked, IsSpent, AreJoined, IsAtHome}
+use Rattle.cross_core_table.specs.Common.{IsTaken, RoundRule, Sat, held_of, holding, failing, making, LockedAt, as_stamped, held_after, stamped_on, stamped_off, unlocked, looked}
+use Rattle.cross_core_table.specs.Rules.{Failed}
+use Rattle.cross_core_table.specs.Plays.{letting_go, having_looked, locked}
 use Rattle.cross_core_table.proofs.Lists.{at_within}
 use Rattle.cross_core_table.proofs.Logs.{logged, touches_it, touches_no_other, touches_none, on_it, off_it, on_newer, made_here, made_there, log_is_short}
 use Rattle.cross_core_table.proofs.Frames.{Goes, holds_kept, look_kept, joined_kept, not_spent, set_spends_none, taken_set, holds_word, stepped_by}

@@ -1,19 +1,13 @@
 -- How the log of a round grows.
-use Rattle.std.proofs.Common.{◌≡◌, ◌≢◌, ◌<◌, ◌≤◌, ◌+◌, ◌*◌, ◌^◌, ℕ, zero, suc, Bool, true, false, if◌then◌else◌, List, [], ◌∷◌, ◌++◌, map, length, length-append, refl, sym, ◌∙◌, ap, subst, arith, eq-eqb, ne_eqb, suc-mul, zero-mul, mul-le-mul_right, Option, Some, None, option_and_then, slice_get}
+use Rattle.std.proofs.Common.{◌≡◌, ◌≢◌, ◌<◌, ◌≤◌, ◌+◌, ◌*◌, ◌^◌, ℕ, zero, suc, Bool, true, false, if◌then◌else◌, List, [], ◌∷◌, ◌++◌, map, length, length-append, refl, sym, ◌∙◌, ap, subst}
+use Rattle.std.proofs.Common.{arith, eq-eqb, ne_eqb, suc-mul, zero-mul, mul-le-mul_right, Option, Some, None, option_and_then, slice_get}
 use mathlib.Core.Logic.{dite}
 use native.Mathlib.Decide.{ℕ_discrete}
-use Rattle.rte_value.specs.Values.{same_number}
+use Rattle.bus_semantics.specs.Common.{same_number, Plan, Noted, touches, touched_by, Logged}
 use Rattle.bus_semantics.specs.declared.entries.Stamped.{Stamped}
-use Rattle.bus_semantics.specs.Plan.{Plan}
-use Rattle.bus_semantics.specs.History.{Noted}
-use Rattle.bus_semantics.specs.Objects.{touches, touched_by}
-use Rattle.bus_semantics.specs.Interleaving.{Logged}
 use Rattle.port_objects.specs.declared.object.Object.{Object}
-use Rattle.port_objects.specs.Kept.{Kept}
-use Rattle.port_objects.specs.Leading.{lead, leads}
-use Rattle.port_objects.specs.Objects.{kept_of}
-use Rattle.cross_core_table.specs.declared.views.Opening.{Opening}
-use Rattle.cross_core_table.specs.Logs.{noted_as, on_object, made_by, AreOf, plan_in, kept_after}
+use Rattle.port_objects.specs.Common.{Kept, lead, leads, kept_of}
+use Rattle.cross_core_table.specs.Common.{Opening, noted_as, on_object, made_by, AreOf, plan_in, kept_after}
 
 -- an entry with its core
 abbrev pub logged : ℕ → Stamped → Logged

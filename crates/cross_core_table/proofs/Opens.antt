@@ -1,26 +1,16 @@
 -- How a round is opened.
-use Rattle.std.proofs.Common.{◌≡◌, ◌≤◌, ◌*◌, ◌+◌, ◌==◌, ℕ, zero, suc, true, List, [], ◌∷◌, ◌++◌, length, length-append, replicate, get_or, set, slice_get, refl, sym, ◌∙◌, ap, subst, arith, eqb-true, Some, Vec}
-use Rattle.std.proofs.lemmas.List.{length-replicate}
-use Rattle.std.proofs.lemmas.Bool.{and_parts}
-use Rattle.std.specs.Vec.{vec_capacity}
-use Rattle.std.specs.Global.{Global}
+use Rattle.std.proofs.Common.{◌≡◌, ◌≤◌, ◌*◌, ◌+◌, ◌==◌, ℕ, zero, suc, true, List, [], ◌∷◌, ◌++◌, length, length-append, replicate, get_or, set, slice_get, refl, sym, ◌∙◌, ap, subst, arith}
+use Rattle.std.proofs.Common.{eqb-true, Some, Vec}
+use Rattle.bus_semantics.specs.Common.{length-replicate, and_parts, vec_capacity, Global, plan_of, clock, groups_fit}
 use Rattle.atomic_table.specs.Seated.{TableId}
 use Rattle.bus_semantics.specs.declared.entries.Stamped.{Stamped}
 use Rattle.bus_semantics.specs.declared.plan.BusPlan.{BusPlan}
-use Rattle.bus_semantics.specs.Plan.{plan_of}
-use Rattle.bus_semantics.specs.Objects.{clock}
-use Rattle.bus_semantics.specs.SoundPlan.{groups_fit}
 use Rattle.port_objects.specs.declared.object.Object.{Object}
-use Rattle.port_objects.specs.Objects.{ArePlans}
-use Rattle.port_objects.specs.Plans.{HasObjects}
-use Rattle.cross_core_table.specs.declared.views.Opening.{Opening}
-use Rattle.cross_core_table.specs.declared.seats.CoreSeat.{CoreSeat}
+use Rattle.port_objects.specs.Common.{ArePlans, HasObjects}
+use Rattle.cross_core_table.specs.Common.{Opening, CoreSeat, plan_in, Sat, giving, newcomer, first_view, IsSeatOf, view_of, IsFresh, AreRooms, AreGiven}
 use Rattle.cross_core_table.specs.declared.space.Space.{Space}
-use Rattle.cross_core_table.specs.Logs.{plan_in}
-use Rattle.cross_core_table.specs.Plays.{Sat, giving, newcomer, first_view}
-use Rattle.cross_core_table.specs.Seats.{IsSeatOf, view_of}
 use Rattle.cross_core_table.specs.Ready.{IsReady}
-use Rattle.cross_core_table.specs.Opened.{IsFresh, AreRooms, HasSpace, AreGiven}
+use Rattle.cross_core_table.specs.Opened.{HasSpace}
 use Rattle.cross_core_table.proofs.Givings.{round_of, one_more_given}
 
 -- ---- words 0

@@ -1,14 +1,11 @@
 -- Which parts the first seat has joined.
-use Rattle.std.proofs.Common.{◌≡◌, ◌≢◌, ◌≤◌, ◌==◌, ℕ, suc, Bool, is_some, if◌then◌else◌, List, [], ◌∷◌, ◌++◌, length, length-append, set, refl, sym, ◌∙◌, ap, subst, ⊎_elim, arith, eq-eqb, ne_eqb, Option}
-use Rattle.std.proofs.lemmas.List.Elements.{filter-append}
+use Rattle.std.proofs.Common.{◌≡◌, ◌≢◌, ◌≤◌, ◌==◌, ℕ, suc, Bool, is_some, if◌then◌else◌, List, [], ◌∷◌, ◌++◌, length, length-append, set, refl, sym, ◌∙◌, ap, subst, ⊎_elim, arith, eq-eqb}
+use Rattle.std.proofs.Common.{ne_eqb, Option}
+use Rattle.bus_semantics.specs.Common.{filter-append, Logged}
 use mathlib.Core.Option.{some}
 use lib.ListN.{get_elem?}
 use Rattle.atomic_table.proofs.Lists.{at_set}
-use Rattle.bus_semantics.specs.Interleaving.{Logged}
-use Rattle.cross_core_table.specs.declared.views.Opening.{Opening}
-use Rattle.cross_core_table.specs.declared.views.Part.{Part}
-use Rattle.cross_core_table.specs.declared.views.View.{View}
-use Rattle.cross_core_table.specs.Rules.{AreJoined, Table, RoundRule, parts_of, times_joined}
+use Rattle.cross_core_table.specs.Common.{Opening, Part, View, AreJoined, Table, RoundRule, parts_of, times_joined}
 use Rattle.cross_core_table.proofs.Lists.{at_within}
 
 -- ---- a part at the end

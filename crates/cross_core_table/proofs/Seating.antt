@@ -1,21 +1,16 @@
 -- The rule where seats are given and taken in, at the opening, and at the close.
-use Rattle.std.proofs.Common.{◌≡◌, ◌≢◌, ◌<◌, ◌≤◌, ◌^◌, ℕ, zero, suc, Bool, true, is_some, if◌then◌else◌, List, [], ◌∷◌, ◌++◌, map, length, length-append, length-set, set, get_or, refl, sym, ◌∙◌, ap, subst, ⊎_elim, arith, slice_get, Option, Some, None}
-use Rattle.std.proofs.lemmas.List.{length-map}
-use Rattle.std.proofs.lemmas.Bool.{false≢true}
+use Rattle.std.proofs.Common.{◌≡◌, ◌≢◌, ◌<◌, ◌≤◌, ◌^◌, ℕ, zero, suc, Bool, true, is_some, if◌then◌else◌, List, [], ◌∷◌, ◌++◌, map, length, length-append, length-set, set, get_or, refl, sym}
+use Rattle.std.proofs.Common.{◌∙◌, ap, subst, ⊎_elim, arith, slice_get, Option, Some, None}
+use Rattle.bus_semantics.specs.Common.{length-map, false≢true, Logged}
 use mathlib.Core.Option.{some, some-injective}
 use lib.ListN.{get_elem?}
 use Rattle.atomic_table.specs.Table.{opening, Splits, Joins}
 use Rattle.atomic_table.proofs.Lists.{at_set, set_here, set_else, at_longer, some_there}
-use Rattle.bus_semantics.specs.Interleaving.{Logged}
 use Rattle.port_objects.specs.declared.object.Object.{Object}
 use Rattle.port_objects.specs.Objects.{ArePlans}
-use Rattle.cross_core_table.specs.declared.views.Opening.{Opening}
-use Rattle.cross_core_table.specs.declared.views.Part.{Part}
-use Rattle.cross_core_table.specs.declared.views.Held.{Held}
-use Rattle.cross_core_table.specs.declared.views.View.{View}
-use Rattle.cross_core_table.specs.Logs.{made_by, AreOf, plan_in}
-use Rattle.cross_core_table.specs.Rules.{Table, IsSpent, AreJoined, IsSeated, IsGone, RoundRule, parts_of, times_joined}
-use Rattle.cross_core_table.specs.Plays.{giving, newcomer, part_of_view, joining, spent, first_view}
+use Rattle.cross_core_table.specs.Common.{Opening, Part, Held, View, made_by, AreOf, plan_in, Table, IsSpent, AreJoined, IsSeated, RoundRule, parts_of, times_joined, giving, newcomer}
+use Rattle.cross_core_table.specs.Common.{part_of_view, joining, spent, first_view}
+use Rattle.cross_core_table.specs.Rules.{IsGone}
 use Rattle.cross_core_table.proofs.Lists.{at_within, at_end, at_somes, at_only}
 use Rattle.cross_core_table.proofs.Logs.{of_more, none_above, kept_first}
 use Rattle.cross_core_table.proofs.Parts.{before_set, once_kept, alone_kept, one_more, no_more, none_beyond}

@@ -2,15 +2,7 @@
 use Rattle.std.proofs.Common.{◌≡◌, ◌<◌, ℕ, zero, suc, List, [], ◌∷◌, ◌++◌, map, length, length-append, slice_get, refl, sym, ◌∙◌, ap, subst, inl, inr, arith, Some, None}
 use Rattle.std.proofs.lemmas.List.{map-append}
 use Rattle.atomic_table.specs.Table.{Joins}
-use Rattle.cross_core_table.specs.declared.views.Part.{Part}
-use Rattle.cross_core_table.specs.declared.seats.CoreSeat.{CoreSeat}
-use Rattle.cross_core_table.specs.OpenRounds.{OpenRound}
-use Rattle.cross_core_table.specs.Rules.{RoundRule}
-use Rattle.cross_core_table.specs.Plays.{Sat, part_of_view, joining, spent}
-use Rattle.cross_core_table.specs.Places.{Place}
-use Rattle.cross_core_table.specs.Seats.{IsSeatOf, AreSeatsOf, view_of}
-use Rattle.cross_core_table.specs.Closing.{Among}
-use Rattle.cross_core_table.specs.Taking.{HasTaken, TakenIn}
+use Rattle.cross_core_table.specs.Common.{Part, CoreSeat, OpenRound, RoundRule, Sat, part_of_view, joining, spent, Place, IsSeatOf, AreSeatsOf, view_of, Among, HasTaken, TakenIn}
 use Rattle.cross_core_table.proofs.Seating.{joins}
 
 -- the first seat

@@ -3,14 +3,9 @@ use Rattle.std.specs.Prelude.{◌≡◌, ◌<◌, ◌≤◌, ◌*◌, ◌⊎◌,
 use mathlib.Core.Option as option
 use lib.ListN.{get_elem?}
 use Rattle.bus_semantics.specs.declared.entries.Stamped.{Stamped}
-use Rattle.bus_semantics.specs.Plan.{Plan}
-use Rattle.bus_semantics.specs.History.{Past}
-use Rattle.bus_semantics.specs.Objects.{touches}
-use Rattle.bus_semantics.specs.Interleaving.{IsInterleaved, past_of}
+use Rattle.bus_semantics.specs.Common.{Plan, Past, touches, IsInterleaved, past_of}
 use Rattle.port_objects.specs.declared.object.Object.{Object}
-use Rattle.port_objects.specs.Leading.{leads}
-use Rattle.port_objects.specs.Objects.{kept_of, IsOfPlan, ArePlans}
-use Rattle.port_objects.specs.Standing.{Stands}
+use Rattle.port_objects.specs.Common.{leads, kept_of, IsOfPlan, ArePlans, Stands}
 use Rattle.cross_core_table.specs.declared.views.Opening.{Opening}
 use Rattle.cross_core_table.specs.declared.views.Part.{Part}
 use Rattle.cross_core_table.specs.declared.views.View.{View}

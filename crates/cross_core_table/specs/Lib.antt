@@ -11,3 +11,4 @@ pub mod Opened
 pub mod Openings
 pub mod Ordering
 pub mod Taking
+pub mod Common

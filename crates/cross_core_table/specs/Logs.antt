@@ -2,14 +2,9 @@
 -- what the cores made.
 use Rattle.std.specs.Prelude.{◌≡◌, ◌<◌, ◌==◌, ℕ, List, [], ◌∷◌, ◌++◌, length, map, if◌then◌else◌, slice_get, Option, option_and_then}
 use Rattle.bus_semantics.specs.declared.entries.Stamped.{Stamped}
-use Rattle.bus_semantics.specs.Plan.{Plan, plan_of}
-use Rattle.bus_semantics.specs.History.{Noted}
-use Rattle.bus_semantics.specs.Objects.{touches}
-use Rattle.bus_semantics.specs.Interleaving.{Logged}
+use Rattle.bus_semantics.specs.Common.{Plan, plan_of, Noted, touches, Logged}
 use Rattle.port_objects.specs.declared.object.Object.{Object}
-use Rattle.port_objects.specs.Kept.{Kept}
-use Rattle.port_objects.specs.Leading.{leads}
-use Rattle.port_objects.specs.Objects.{kept_of}
+use Rattle.port_objects.specs.Common.{Kept, leads, kept_of}
 use Rattle.cross_core_table.specs.declared.views.Opening.{Opening}
 
 -- an entry with the event of its activation, as the lead takes it

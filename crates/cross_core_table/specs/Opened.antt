@@ -1,9 +1,7 @@
 -- The memory of a round, how its seats are given, and what its opening gives.
 use Rattle.std.specs.Prelude.{◌≡◌, ◌≤◌, ◌*◌, ℕ, suc, List, [], length, replicate, slice_get, Some, Vec}
-use Rattle.std.specs.Vec.{vec_capacity}
-use Rattle.std.specs.Global.{Global}
+use Rattle.bus_semantics.specs.Common.{vec_capacity, Global, Plan}
 use Rattle.bus_semantics.specs.declared.entries.Stamped.{Stamped}
-use Rattle.bus_semantics.specs.Plan.{Plan}
 use Rattle.port_objects.specs.declared.object.Object.{Object}
 use Rattle.atomic_table.specs.Seated.{TableId}
 use Rattle.cross_core_table.specs.declared.space.Space.{Space}

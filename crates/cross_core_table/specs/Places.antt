@@ -4,18 +4,12 @@ use Rattle.atomic_table.specs.declared.shared.Seat.{Seat}
 use Rattle.bus_semantics.specs.declared.entries.Actor.{Actor}
 use Rattle.bus_semantics.specs.declared.entries.Entry.{Entry}
 use Rattle.bus_semantics.specs.declared.entries.Stamped.{Stamped}
-use Rattle.bus_semantics.specs.Plan.{Plan}
-use Rattle.bus_semantics.specs.Wanted.{Wanted, wanted_by}
-use Rattle.bus_semantics.specs.History.{Noted}
+use Rattle.bus_semantics.specs.Common.{Plan, Wanted, wanted_by, Noted}
 use Rattle.object_kinds.specs.declared.acted.Shown.{Shown}
 use Rattle.port_objects.specs.declared.object.Object.{Object}
 use Rattle.port_objects.specs.declared.bench.Benched.{Benched}
 use Rattle.port_objects.specs.declared.bench.Benched.TheVariants.{Done, NotYet, Contended}
-use Rattle.port_objects.specs.Kept.{Kept}
-use Rattle.port_objects.specs.Leading.{lead}
-use Rattle.port_objects.specs.Objects.{kept_of, IsOfPlan}
-use Rattle.port_objects.specs.Answers.{why_held}
-use Rattle.port_objects.specs.Benches.{IsStampedFor}
+use Rattle.port_objects.specs.Common.{Kept, lead, kept_of, IsOfPlan, why_held, IsStampedFor}
 use Rattle.cross_core_table.specs.declared.views.Opening.{Opening}
 use Rattle.cross_core_table.specs.declared.views.View.{View}
 use Rattle.cross_core_table.specs.Logs.{plan_in, kept_after}

@@ -1,10 +1,8 @@
 -- A round as code keeps it.
 use Rattle.std.specs.Prelude.{◌≡◌, ◌≤◌, ◌*◌, ℕ, suc, [], true, Vec}
-use Rattle.std.specs.Vec.{vec_capacity}
-use Rattle.std.specs.Global.{Global}
+use Rattle.bus_semantics.specs.Common.{vec_capacity, Global, groups_fit}
 use Rattle.atomic_table.specs.Seated.{TableId}
 use Rattle.bus_semantics.specs.declared.entries.Stamped.{Stamped}
-use Rattle.bus_semantics.specs.SoundPlan.{groups_fit}
 use Rattle.port_objects.specs.declared.object.Object.{Object}
 use Rattle.port_objects.specs.Objects.{ArePlans}
 use Rattle.cross_core_table.specs.declared.views.Opening.{Opening}

@@ -1,12 +1,7 @@
 //! A wish on an object that cores share.
 
 ghost use Rattle.std.specs.Prelude.{◌≡◌, ◌<◌, ◌++◌, suc, [], ◌∷◌, length, true, vec_len, Some, None};
-ghost use Rattle.std.specs.Vec.{vec_capacity};
-ghost use Rattle.bus_semantics.specs.Plan.{plan_of};
-ghost use Rattle.bus_semantics.specs.SoundPlan.{groups_fit};
-ghost use Rattle.bus_semantics.specs.Wanted.{wanted_of};
-ghost use Rattle.bus_semantics.specs.Asked.{event_of};
-ghost use Rattle.bus_semantics.specs.Objects.{touched_by};
+ghost use Rattle.bus_semantics.specs.Common.{vec_capacity, plan_of, groups_fit, wanted_of, event_of, touched_by};
 ghost use Rattle.port_objects.specs.Benches.{IsAsked, stamped_alone, benched, IsWritten};
 ghost use Rattle.cross_core_table.specs.Logs.{plan_in};
 ghost use Rattle.cross_core_table.specs.Plays.{making, letting_go, as_stamped};

@@ -1,9 +1,7 @@
 //! A seat at its bench.
 
 ghost use Rattle.std.specs.Prelude.{◌≡◌, ◌<◌, ℕ, length, Some};
-ghost use Rattle.std.specs.Vec.{vec_capacity};
-ghost use Rattle.bus_semantics.specs.Plan.{plan_of};
-ghost use Rattle.bus_semantics.specs.Wanted.{wanted_of};
+ghost use Rattle.bus_semantics.specs.Common.{vec_capacity, plan_of, wanted_of};
 ghost use Rattle.port_objects.specs.Benches.{IsAsked, IsActed, written_last, benched, IsWritten};
 ghost use Rattle.cross_core_table.specs.Logs.{plan_in};
 ghost use Rattle.cross_core_table.specs.OpenRounds.{OpenRound, told_of};

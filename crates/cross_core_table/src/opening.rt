@@ -2,8 +2,7 @@
 
 ghost use Rattle.std.specs.Prelude.{◌≡◌, ◌≤◌, length};
 ghost use Rattle.bus_semantics.specs.Plan.{plan_of};
-ghost use Rattle.port_objects.specs.Objects.{ArePlans};
-ghost use Rattle.port_objects.specs.Plans.{HasObjects};
+ghost use Rattle.port_objects.specs.Common.{ArePlans, HasObjects};
 ghost use Rattle.cross_core_table.specs.Opened.{HasSpace};
 ghost use Rattle.cross_core_table.specs.Openings.{Opens};
 

@@ -1,15 +1,9 @@
 //! The atomic steps of a seat, and its work on the object that it holds.
 
 ghost use Rattle.std.specs.Prelude.{◌≡◌, ◌<◌, suc, [], ◌∷◌, length, true, Some, None};
-ghost use Rattle.bus_semantics.specs.Plan.{plan_of};
-ghost use Rattle.bus_semantics.specs.SoundPlan.{groups_fit};
-ghost use Rattle.bus_semantics.specs.Wanted.{wanted_of};
-ghost use Rattle.bus_semantics.specs.Fitting.{wish_fits};
-ghost use Rattle.bus_semantics.specs.Objects.{object_of, touched_by};
-ghost use Rattle.bus_semantics.specs.Asked.{asks_its_own};
+ghost use Rattle.bus_semantics.specs.Common.{plan_of, groups_fit, wanted_of, wish_fits, object_of, touched_by, asks_its_own};
 ghost use Rattle.port_objects.specs.declared.object.Object.{Object};
-ghost use Rattle.port_objects.specs.Objects.{kept_of, IsOfPlan};
-ghost use Rattle.port_objects.specs.Answers.{IsAnswer};
+ghost use Rattle.port_objects.specs.Common.{kept_of, IsOfPlan, IsAnswer};
 ghost use Rattle.cross_core_table.specs.declared.views.Held.{Held};
 ghost use Rattle.cross_core_table.specs.Logs.{plan_in, kept_after};
 ghost use Rattle.cross_core_table.specs.Plays.{as_stamped, held_of, held_after, making, letting_go, having_looked};

@@ -1,31 +1,18 @@
 -- What the calls of a group answer is what the lead gives.
 use Rattle.std.proofs.Common.{◌≡◌, ◌<◌, ℕ, Bool, true, false, ◌&&◌, refl, sym, ◌∙◌, ap, subst, arith, List, [], length, Option, Some, None}
 use Rattle.std.specs.Prelude.{is_none, unwrap_or, option_map}
-use Rattle.std.specs.List.{Contains, list_all, slice_get}
-use Rattle.std.proofs.lemmas.Bool.{eq-eqb, false≢true}
-use Rattle.std.proofs.lemmas.Option.{same_Some}
-use Rattle.rte_value.specs.declared.value.Value.{Value}
-use Rattle.rte_value.specs.Values.{words_of, same_words}
-use Rattle.rte_value.specs.ShortValues.{empty_value}
-use Rattle.rte_value.specs.EqualValues.{same_words-Decides}
+use Rattle.bus_semantics.specs.Common.{Contains, list_all, slice_get, eq-eqb, false≢true, same_Some, Value, words_of, same_words, empty_value, same_words-Decides, Plan, kind_of, Wanted}
+use Rattle.bus_semantics.specs.Common.{to_start, to_read, to_fetch, to_see_updated, object_of, answer_fits, start_fits, same_bool, event_of}
 use Rattle.bus_semantics.specs.declared.plan.EventKind.{EventKind}
 use Rattle.bus_semantics.specs.declared.plan.EventKind.TheVariants.{DataReceived}
 use Rattle.bus_semantics.specs.declared.entries.Actor.{Actor}
 use Rattle.bus_semantics.specs.declared.entries.Deed.{Deed}
 use Rattle.bus_semantics.specs.declared.entries.Deed.TheVariants as deed
-use Rattle.bus_semantics.specs.Plan.{Plan, kind_of}
-use Rattle.bus_semantics.specs.Wanted.{Wanted, to_start, to_read, to_fetch, to_see_updated}
-use Rattle.bus_semantics.specs.Objects.{object_of}
-use Rattle.bus_semantics.specs.Fitting.{answer_fits, start_fits}
-use Rattle.bus_semantics.specs.Legal.{same_bool}
-use Rattle.bus_semantics.specs.Asked.{event_of}
 use Rattle.data_objects.specs.KeptValues as data_kept
 use Rattle.object_kinds.specs.declared.acted.Acted.{Acted}
 use Rattle.object_kinds.specs.declared.acted.Acted.TheVariants.{Done, NotYet}
 use Rattle.object_kinds.specs.declared.acted.Shown.{Shown}
-use Rattle.object_kinds.specs.Kinds.{IsAnswerOf}
-use Rattle.object_kinds.specs.Layout.{place, group_at, IsAlone, members_of, waits_for_data}
-use Rattle.object_kinds.specs.Flags.{given, is_set, is_pending}
+use Rattle.object_kinds.specs.Common.{IsAnswerOf, place, group_at, IsAlone, members_of, waits_for_data, given, is_set, is_pending}
 use Rattle.object_kinds.proofs.Events.{Waiting, waiting_for, events_all}
 use Rattle.object_kinds.proofs.Flags.{pending_cleared}
 use Rattle.object_kinds.proofs.Lists.{all_at, set_same}

@@ -2,21 +2,13 @@
 -- last value that is its own.
 use Rattle.std.proofs.Common.{◌≡◌, ℕ, ℤ, Bool, true, false, not, ◌==◌, if◌then◌else◌, refl, sym, ◌∙◌, ap, subst, List, ◌∷◌, Option, Some, None}
 use Rattle.std.specs.Prelude.{option_map, unwrap_or}
-use Rattle.std.specs.Option.{option_or}
-use Rattle.std.proofs.lemmas.Bool.{eqb-true, false≢true}
-use Rattle.std.proofs.lemmas.Option.{same_Some}
-use Rattle.rte_value.specs.declared.value.Value.{Value}
-use Rattle.rte_value.specs.Values.{words_of}
+use Rattle.bus_semantics.specs.Common.{option_or, eqb-true, false≢true, same_Some, Value, words_of, Plan, group_of, kind_of, Noted, Past, newest, is_in_group, listed_in, stored_in}
+use Rattle.bus_semantics.specs.Common.{last_stored, validity, update, sent_in, is_start_by}
 use Rattle.bus_semantics.specs.declared.plan.EventKind.{EventKind}
 use Rattle.bus_semantics.specs.declared.plan.EventKind.TheVariants.{DataReceived}
 use Rattle.bus_semantics.specs.declared.entries.Actor.{Actor}
 use Rattle.bus_semantics.specs.declared.entries.Deed.{Deed}
 use Rattle.bus_semantics.specs.declared.entries.Deed.TheVariants as deed
-use Rattle.bus_semantics.specs.Plan.{Plan, group_of, kind_of}
-use Rattle.bus_semantics.specs.History.{Noted, Past, newest}
-use Rattle.bus_semantics.specs.Unqueued.{is_in_group, listed_in, stored_in, last_stored, validity, update}
-use Rattle.bus_semantics.specs.Queued.{sent_in}
-use Rattle.bus_semantics.specs.Owed.{is_start_by}
 use Rattle.data_objects.specs.KeptValues.{after_write}
 use Rattle.object_kinds.specs.Layout.{waits_for_data}
 use Rattle.object_kinds.proofs.Options.{number_is}

@@ -1,12 +1,9 @@
 -- What a group keeps after each of its entries is what the definitions give from its past and the entry.
 use Rattle.std.proofs.Common.{◌≡◌, ℕ, ℤ, Bool, true, false, ◌&&◌, ◌||◌, not, if◌then◌else◌, refl, sym, ◌∙◌, ap, subst, List, [], ◌∷◌, length, map, Option, Some, None, is_some}
 use Rattle.std.specs.Prelude.{replicate, set, unwrap_or, option_map}
-use Rattle.std.specs.List.{list_all, slice_get}
-use Rattle.std.specs.Option.{option_or, option_map_or}
-use Rattle.std.proofs.lemmas.Bool.{eq-eqb, false≢true}
-use Rattle.rte_value.specs.declared.value.Value.{Value}
-use Rattle.rte_value.specs.Values.{words_of, same_words}
-use Rattle.rte_value.specs.ShortValues.{empty_value}
+use Rattle.bus_semantics.specs.Common.{list_all, slice_get, option_or, option_map_or, eq-eqb, false≢true, Value, words_of, same_words, empty_value, Plan, kind_of, Noted, Past, newest}
+use Rattle.bus_semantics.specs.Common.{start_fits, is_in_group, stored_in, last_stored, value_at, validity, is_invalid, elem_read_code, read_code, update, is_updated, sent_in}
+use Rattle.bus_semantics.specs.Common.{starts_request, is_start_by, follows_last, brings_data, is_due_kind, same_bool, is_distinct}
 use Rattle.bus_semantics.specs.declared.plan.ElemPlan.{ElemPlan}
 use Rattle.bus_semantics.specs.declared.plan.ElemKind.{ElemKind}
 use Rattle.bus_semantics.specs.declared.plan.ElemKind.TheVariants.{Unqueued, Queued, Variable}
@@ -16,16 +13,6 @@ use Rattle.bus_semantics.specs.declared.entries.Actor.{Actor}
 use Rattle.bus_semantics.specs.declared.entries.Actor.TheVariants.{Env}
 use Rattle.bus_semantics.specs.declared.entries.Deed.{Deed}
 use Rattle.bus_semantics.specs.declared.entries.Deed.TheVariants as deed
-use Rattle.bus_semantics.specs.Plan.{Plan, kind_of}
-use Rattle.bus_semantics.specs.History.{Noted, Past, newest}
-use Rattle.bus_semantics.specs.Fitting.{start_fits}
-use Rattle.bus_semantics.specs.Unqueued.{is_in_group, stored_in, last_stored, value_at, validity, is_invalid, elem_read_code, read_code, update, is_updated}
-use Rattle.bus_semantics.specs.Queued.{sent_in}
-use Rattle.bus_semantics.specs.Calls.{starts_request}
-use Rattle.bus_semantics.specs.Owed.{is_start_by}
-use Rattle.bus_semantics.specs.Due.{follows_last, brings_data, is_due_kind}
-use Rattle.bus_semantics.specs.Legal.{same_bool}
-use Rattle.bus_semantics.specs.SoundPlan.{is_distinct}
 use Rattle.data_objects.specs.KeptValues as data_kept
 use Rattle.data_objects.specs.KeptValues.{after_write, after_invalidation, after_read, after_start}
 use Rattle.object_kinds.specs.Layout.{members_of, events_of, waits_for_data, place}

@@ -1,26 +1,13 @@
 -- The law of leads: an entry by which a group leads on follows its past, and what is kept then is what the definitions give.
 use Rattle.std.proofs.Common.{◌≡◌, ℕ, Bool, true, ◌&&◌, ◌==◌, refl, sym, ◌∙◌, ap, subst, ◌∷◌, Option, Some}
-use Rattle.std.specs.List.{list_all, slice_get}
-use Rattle.std.proofs.lemmas.Bool.{and_parts}
-use Rattle.std.proofs.lemmas.Option.{same_Some}
-use Rattle.rte_value.specs.declared.value.Value.{Value}
-use Rattle.rte_value.specs.Values.{words_of, same_words}
+use Rattle.bus_semantics.specs.Common.{list_all, slice_get, and_parts, same_Some, Value, words_of, same_words, Plan, kind_of, Noted, Past, touches, is_in_group, value_at, read_code}
+use Rattle.bus_semantics.specs.Common.{is_updated, is_due, is_due_kind, start_matches, matches, Answers, is_proper}
 use Rattle.bus_semantics.specs.declared.entries.Actor.{Actor}
 use Rattle.bus_semantics.specs.declared.entries.Deed.{Deed}
 use Rattle.bus_semantics.specs.declared.entries.Deed.TheVariants as deed
-use Rattle.bus_semantics.specs.Plan.{Plan, kind_of}
-use Rattle.bus_semantics.specs.History.{Noted, Past}
-use Rattle.bus_semantics.specs.Objects.{touches}
-use Rattle.bus_semantics.specs.Unqueued.{is_in_group, value_at, read_code, is_updated}
-use Rattle.bus_semantics.specs.Due.{is_due, is_due_kind}
-use Rattle.bus_semantics.specs.Matching.{start_matches, matches}
-use Rattle.bus_semantics.specs.Legal.{Answers}
-use Rattle.bus_semantics.specs.Locality.{is_proper}
 use Rattle.data_objects.specs.KeptValues as data_kept
 use Rattle.data_objects.specs.KeptValues.{after_write, after_invalidation, after_read, after_start}
-use Rattle.object_kinds.specs.Kinds.{LeadsFollow, LeadsKeep}
-use Rattle.object_kinds.specs.Layout.{group_at, IsAlone, members_of, waits_for_data, place}
-use Rattle.object_kinds.specs.Flags.{given, is_set}
+use Rattle.object_kinds.specs.Common.{LeadsFollow, LeadsKeep, group_at, IsAlone, members_of, waits_for_data, place, given, is_set}
 use Rattle.object_kinds.proofs.Events.{waiting_for, events_all}
 use Rattle.object_kinds.proofs.Flags.{flag_set}
 use Rattle.object_kinds.proofs.Lists.{mapped_at, all_at}

@@ -1,25 +1,14 @@
 -- A group of a sound plan misses no entry that may follow its past.
 use Rattle.std.proofs.Common.{◌≡◌, ℕ, Bool, true, not, ◌&&◌, ◌==◌, refl, sym, ◌∙◌, ap, List, Option, Some, is_some}
-use Rattle.std.specs.List.{slice_get}
-use Rattle.std.proofs.lemmas.Bool.{and_parts}
-use Rattle.rte_value.specs.declared.value.Value.{Value}
-use Rattle.rte_value.specs.Values.{words_of, same_words}
+use Rattle.bus_semantics.specs.Common.{slice_get, and_parts, Value, words_of, same_words, Plan, kind_of, Noted, Past, is_in_group, value_at, read_code, is_updated, is_due, is_due_kind}
+use Rattle.bus_semantics.specs.Common.{same_bool, Answers, is_proper, IsSound}
 use Rattle.bus_semantics.specs.declared.script.Mapping.{Mapping}
 use Rattle.bus_semantics.specs.declared.entries.Actor.{Actor}
 use Rattle.bus_semantics.specs.declared.entries.Actor.TheVariants.{Env}
 use Rattle.bus_semantics.specs.declared.entries.Deed.{Deed}
 use Rattle.bus_semantics.specs.declared.entries.Deed.TheVariants as deed
-use Rattle.bus_semantics.specs.Plan.{Plan, kind_of}
-use Rattle.bus_semantics.specs.History.{Noted, Past}
-use Rattle.bus_semantics.specs.Unqueued.{is_in_group, value_at, read_code, is_updated}
-use Rattle.bus_semantics.specs.Due.{is_due, is_due_kind}
-use Rattle.bus_semantics.specs.Legal.{same_bool, Answers}
-use Rattle.bus_semantics.specs.Locality.{is_proper}
-use Rattle.bus_semantics.specs.Sound.{IsSound}
 use Rattle.data_objects.specs.KeptValues as data_kept
-use Rattle.object_kinds.specs.Kinds.{MissesNothing}
-use Rattle.object_kinds.specs.Layout.{group_at, members_of, waits_for_data, place}
-use Rattle.object_kinds.specs.Flags.{given, is_set}
+use Rattle.object_kinds.specs.Common.{MissesNothing, group_at, members_of, waits_for_data, place, given, is_set}
 use Rattle.object_kinds.proofs.Events.{waiting_for, waiting_placed}
 use Rattle.object_kinds.proofs.Flags.{flag_there}
 use Rattle.object_kinds.proofs.Lists.{mapped_at, all_at}

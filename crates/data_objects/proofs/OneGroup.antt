@@ -1,12 +1,8 @@
 -- Flags of one group, seen as whether they are set.
 use Rattle.std.proofs.Common.{◌≡◌, ◌<◌, ◌==◌, ◌||◌, ℕ, zero, suc, refl, sym, ◌∙◌, ap, Bool, true, false, not, cond, ◌+◌, List, [], ◌∷◌, length, get_or, map, replicate, Some}
 use Rattle.std.specs.Prelude.{count_by}
-use Rattle.std.specs.List.{slice_get}
-use Rattle.std.specs.Option.{option_map}
-use Rattle.std.proofs.lemmas.Bool.{eq-eqb}
-use Rattle.std.proofs.lemmas.List.Elements.{All-head, All-tail}
+use Rattle.bus_semantics.specs.Common.{slice_get, option_map, eq-eqb, All-head, All-tail, slice_get-get_or, slice_get-map}
 use Rattle.std.proofs.lemmas.List.Sums.{sum_by-cons}
-use Rattle.std.proofs.lemmas.Option.{slice_get-get_or, slice_get-map}
 use Rattle.latches.specs.Latches.{Latch, clear_in, is_clear, after_set, IsNamedIn}
 use Rattle.data_objects.specs.Flags.{are_set, AreOneGroup, IsOfClear}
 

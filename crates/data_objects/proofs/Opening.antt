@@ -1,16 +1,8 @@
 -- What a group keeps at first is what the definitions give from no entry.
 use Rattle.std.proofs.Common.{◌≡◌, ◌≤◌, ℕ, false, refl, sym, ◌∙◌, ap, [], length, Option, Some, None}
 use Rattle.std.specs.Prelude.{unwrap_or}
-use Rattle.std.specs.List.{slice_get}
-use Rattle.std.specs.Option.{option_map_or}
-use Rattle.std.proofs.lemmas.Option.{slice_get_past}
-use Rattle.rte_value.specs.declared.value.Value.{Value}
-use Rattle.rte_value.specs.Values.{words_of}
-use Rattle.rte_value.specs.ShortValues.{empty_value}
-use Rattle.rte_value.specs.EqualValues.{Value-by_words}
+use Rattle.bus_semantics.specs.Common.{slice_get, option_map_or, slice_get_past, Value, words_of, empty_value, Value-by_words, Plan, kind_of, is_in_group, is_updated}
 use Rattle.bus_semantics.specs.declared.plan.ElemPlan.{ElemPlan}
-use Rattle.bus_semantics.specs.Plan.{Plan, kind_of}
-use Rattle.bus_semantics.specs.Unqueued.{is_in_group, is_updated}
 use Rattle.object_kinds.specs.Layout.{group_at, IsAlone, members_of, events_of, waits_for_data}
 use Rattle.object_kinds.proofs.Events.{waiting_for, events_all}
 use Rattle.object_kinds.proofs.Lists.{filled_all}

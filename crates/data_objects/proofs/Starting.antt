@@ -1,15 +1,11 @@
 -- A start goes by its flag, and only a write or a publication sets one.
 use Rattle.std.proofs.Common.{◌≡◌, ℕ, false, ◌&&◌, ◌==◌, refl, sym, ◌∙◌, ap, subst, List, Option, Some, None}
 use Rattle.std.specs.Prelude.{option_map, unwrap_or}
-use Rattle.std.proofs.lemmas.Bool.{false≢true}
+use Rattle.bus_semantics.specs.Common.{false≢true, Plan, to_start, wanted_by}
 use Rattle.bus_semantics.specs.declared.entries.Deed.{Deed}
 use Rattle.bus_semantics.specs.declared.entries.Deed.TheVariants as deed
-use Rattle.bus_semantics.specs.Plan.{Plan}
-use Rattle.bus_semantics.specs.Wanted.{to_start, wanted_by}
 use Rattle.data_objects.specs.KeptValues as data_kept
-use Rattle.object_kinds.specs.Kinds.{StartsByFlag, OthersWakeNothing}
-use Rattle.object_kinds.specs.Layout.{group_at, place, members_of}
-use Rattle.object_kinds.specs.Flags.{given, is_set, is_pending}
+use Rattle.object_kinds.specs.Common.{StartsByFlag, OthersWakeNothing, group_at, place, members_of, given, is_set, is_pending}
 use Rattle.object_kinds.proofs.Flags.{pending_cleared}
 use Rattle.object_kinds.proofs.Options.{given_some, given_none, none_given, then_some, mapped_some}
 use Rattle.data_objects.specs.Acting.{started_at}

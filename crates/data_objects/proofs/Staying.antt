@@ -1,13 +1,10 @@
 -- No entry changes what a group is of its plan.
 use Rattle.std.proofs.Common.{◌≡◌, ℕ, ◌&&◌, ◌==◌, refl, ◌∙◌, ap, sym, subst, List, length, map, true, false, Some}
-use Rattle.std.proofs.lemmas.List.{length-replicate, length-set}
-use Rattle.std.proofs.lemmas.Option.{same_Some}
+use Rattle.bus_semantics.specs.Common.{length-replicate, length-set, same_Some, Plan}
 use Rattle.bus_semantics.specs.declared.entries.Deed.{Deed}
 use Rattle.bus_semantics.specs.declared.entries.Deed.TheVariants as deed
-use Rattle.bus_semantics.specs.Plan.{Plan}
 use Rattle.data_objects.specs.KeptValues as data_kept
-use Rattle.object_kinds.specs.Layout.{place, members_of}
-use Rattle.object_kinds.specs.Flags.{given, is_set}
+use Rattle.object_kinds.specs.Common.{place, members_of, given, is_set}
 use Rattle.object_kinds.proofs.Options.{given_some, then_some}
 use Rattle.data_objects.specs.Kept.{Kept}
 use Rattle.data_objects.specs.Layout.{receiver_of}

@@ -2,8 +2,7 @@
 use Rattle.std.specs.Prelude.{ℕ, List, map, Bool}
 use Rattle.data_objects.specs.KeptValues as ports
 use Rattle.bus_semantics.specs.Plan.{Plan}
-use Rattle.object_kinds.specs.Layout.{members_of, events_of, waits_for_data, place}
-use Rattle.object_kinds.specs.Flags.{is_pending}
+use Rattle.object_kinds.specs.Common.{members_of, events_of, waits_for_data, place, is_pending}
 use Rattle.data_objects.specs.Layout.{initial_of, receiver_of}
 
 -- the plan's DataReceivedEvents that wait for the group, in rising order, and what its elements keep

@@ -1,8 +1,7 @@
 -- What a group of joined unqueued data elements keeps, and what each call makes of it (SWS_RTE: Rte_Write, Rte_Read, Rte_IRead,
 -- Rte_IWrite, Rte_Invalidate, Rte_IsUpdated, DataReceivedEvent).
 use Rattle.std.specs.Prelude.{ℕ, List, length, replicate, set, Bool, true, false, Option, Some, None, slice_get}
-use Rattle.std.specs.Option.{option_or}
-use Rattle.rte_value.specs.declared.value.Value.{Value}
+use Rattle.bus_semantics.specs.Common.{option_or, Value}
 
 pub record Kept : Type 0 where
   -- what no call changes: the initial value of each receiver, and the receiver of each event

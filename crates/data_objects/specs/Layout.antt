@@ -1,11 +1,7 @@
 -- What of a plan belongs to a group of unqueued data elements.
 use Rattle.std.specs.Prelude.{◌≡◌, ℕ, ◌<◌, length, Bool, true, false, not, unwrap_or}
-use Rattle.std.specs.List.{list_all}
-use Rattle.rte_value.specs.declared.value.Value.{Value}
-use Rattle.rte_value.specs.ShortValues.{empty_value}
+use Rattle.bus_semantics.specs.Common.{list_all, Value, empty_value, Plan, look, kind_of, is_queued}
 use Rattle.bus_semantics.specs.declared.plan.ElemPlan.{ElemPlan}
-use Rattle.bus_semantics.specs.Plan.{Plan, look, kind_of}
-use Rattle.bus_semantics.specs.Owners.{is_queued}
 use Rattle.object_kinds.specs.Layout.{members_of, place, element_in}
 
 abbrev pub initial_of : Plan → (elem : ℕ) → Value

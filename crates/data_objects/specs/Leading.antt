@@ -1,22 +1,16 @@
 -- The lead: what a group keeps after an entry if it kept that before, or nothing if it would not answer so. It is a function of the
 -- plan and of plain data, and knows no history. The entry touches the group.
 use Rattle.std.specs.Prelude.{ℕ, List, Bool, true, false, not, ◌&&◌, ◌==◌, is_some, if◌then◌else◌, Option, Some, None, option_map, option_and_then, slice_get}
-use Rattle.rte_value.specs.declared.value.Value.{Value}
-use Rattle.rte_value.specs.Values.{words_of, same_words}
+use Rattle.bus_semantics.specs.Common.{Value, words_of, same_words, Plan, look, Noted, same_bool, Wanted, to_start}
 use Rattle.bus_semantics.specs.declared.plan.ElemPlan.{ElemPlan}
 use Rattle.bus_semantics.specs.declared.plan.ElemKind.{ElemKind}
 use Rattle.bus_semantics.specs.declared.plan.ElemKind.TheVariants.{Unqueued, Queued, Variable}
 use Rattle.bus_semantics.specs.declared.entries.Deed.{Deed}
 use Rattle.bus_semantics.specs.declared.entries.Deed.TheVariants as deed
-use Rattle.bus_semantics.specs.Plan.{Plan, look}
-use Rattle.bus_semantics.specs.History.{Noted}
-use Rattle.bus_semantics.specs.Legal.{same_bool}
-use Rattle.bus_semantics.specs.Wanted.{Wanted, to_start}
 use Rattle.data_objects.specs.KeptValues as data_kept
 use Rattle.object_kinds.specs.declared.acted.Shown.{Shown}
 use Rattle.object_kinds.specs.declared.acted.Shown.TheVariants.{NotDue, Unmatched}
-use Rattle.object_kinds.specs.Layout.{group_at, members_of, place}
-use Rattle.object_kinds.specs.Flags.{given, is_set}
+use Rattle.object_kinds.specs.Common.{group_at, members_of, place, given, is_set}
 use Rattle.data_objects.specs.Kept.{Kept}
 
 -- 134 RTE_E_UNCONNECTED, 1 RTE_E_INVALID, 133 RTE_E_NEVER_RECEIVED, 0 RTE_E_OK, the first that fits; 0 for a variable

@@ -1,11 +1,7 @@
 -- What a group keeps, as the definitions give it from a past of the group, or of a bundle that has it.
 use Rattle.std.specs.Prelude.{◌≡◌, ℕ, map, Bool, option_map}
-use Rattle.rte_value.specs.Values.{words_of}
+use Rattle.bus_semantics.specs.Common.{words_of, Plan, Past, last_stored, is_invalid, is_updated, is_due}
 use Rattle.bus_semantics.specs.declared.entries.Actor.TheVariants.{Env}
-use Rattle.bus_semantics.specs.Plan.{Plan}
-use Rattle.bus_semantics.specs.History.{Past}
-use Rattle.bus_semantics.specs.Unqueued.{last_stored, is_invalid, is_updated}
-use Rattle.bus_semantics.specs.Due.{is_due}
 use Rattle.object_kinds.specs.Layout.{group_at, IsAlone, members_of, events_of, waits_for_data}
 use Rattle.data_objects.specs.Layout.{initial_of, receiver_of, IsUnqueuedGroup}
 use Rattle.data_objects.specs.Kept.{Kept}

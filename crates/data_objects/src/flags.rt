@@ -1,8 +1,7 @@
 //! Flags that are set all at once.
 
 ghost use Rattle.std.specs.Prelude.{◌≡◌, ◌<◌, ◌≤◌, ◌+◌, ◌⊎◌, ℕ, IfOk, Some, count_by, false, length, not, replicate, set, slice_get, true};
-ghost use Rattle.std.specs.List.{Contains};
-ghost use Rattle.std.specs.Vec.{vec_capacity};
+ghost use Rattle.bus_semantics.specs.Common.{Contains, vec_capacity};
 ghost use Rattle.data_objects.specs.Flags.{IsOfClear};
 
 use crate::Memory;

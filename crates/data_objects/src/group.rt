@@ -1,18 +1,12 @@
 //! A group of unqueued data elements with the plan's events that wait for it.
 
 ghost use Rattle.std.specs.Prelude.{◌≡◌, ◌<◌, ◌≤◌, ◌+◌, ◌⊎◌, ℕ, count_by, length, not, true, false, Some};
-ghost use Rattle.std.specs.List.{Contains};
-ghost use Rattle.std.specs.Vec.{vec_capacity};
-ghost use Rattle.rte_value.specs.Values.{words_of};
+ghost use Rattle.bus_semantics.specs.Common.{Contains, vec_capacity, words_of, Plan, plan_of, look, groups_fit, to_start, to_fetch, to_write, to_read, to_invalidate, to_see_updated};
+ghost use Rattle.bus_semantics.specs.Common.{to_publish, wanted_of, object_of, touched};
 ghost use Rattle.bus_semantics.specs.declared.entries.Entry.{Entry};
-ghost use Rattle.bus_semantics.specs.Plan.{Plan, plan_of, look};
-ghost use Rattle.bus_semantics.specs.SoundPlan.{groups_fit};
-ghost use Rattle.bus_semantics.specs.Wanted.{to_start, to_fetch, to_write, to_read, to_invalidate, to_see_updated, to_publish, wanted_of};
-ghost use Rattle.bus_semantics.specs.Objects.{object_of, touched};
 ghost use Rattle.object_kinds.specs.declared.acted.Shown.{Shown};
 ghost use Rattle.object_kinds.specs.declared.acted.Acted.TheVariants.{Done, NotYet};
-ghost use Rattle.object_kinds.specs.Layout.{place, members_of};
-ghost use Rattle.object_kinds.specs.Kinds.{IsAnswerOf};
+ghost use Rattle.object_kinds.specs.Common.{place, members_of, IsAnswerOf};
 ghost use Rattle.data_objects.specs.KeptValues.{after_write};
 ghost use Rattle.data_objects.specs.Acting.{IsActed, IsTaken, IsWishIn, group_seen, started_at};
 ghost use Rattle.data_objects.specs.Kept.{may_start};

@@ -2,10 +2,8 @@
 
 ghost use Rattle.std.specs.Prelude.{◌≡◌, ℕ, []};
 ghost use Rattle.bus_semantics.specs.declared.script.Mapping.{Mapping};
-ghost use Rattle.bus_semantics.specs.Plan.{Plan};
-ghost use Rattle.bus_semantics.specs.Sound.{IsSound};
-ghost use Rattle.object_kinds.specs.Layout.{group_at, IsAlone};
-ghost use Rattle.object_kinds.specs.Kinds.{LeadsFollow, LeadsKeep, MissesNothing, StartsByFlag, OthersWakeNothing};
+ghost use Rattle.bus_semantics.specs.Common.{Plan, IsSound};
+ghost use Rattle.object_kinds.specs.Common.{group_at, IsAlone, LeadsFollow, LeadsKeep, MissesNothing, StartsByFlag, OthersWakeNothing};
 ghost use Rattle.data_objects.specs.Kept.{opening, may_start};
 ghost use Rattle.data_objects.specs.Layout.{IsUnqueuedGroup};
 ghost use Rattle.data_objects.specs.Leading.{lead, wakes};

@@ -1,8 +1,7 @@
 //! A group of a plan, made.
 
 ghost use Rattle.std.specs.Prelude.{◌≡◌, ◌<◌, length, map, true, IfOk};
-ghost use Rattle.bus_semantics.specs.Plan.{plan_of};
-ghost use Rattle.bus_semantics.specs.SoundPlan.{groups_fit};
+ghost use Rattle.bus_semantics.specs.Common.{plan_of, groups_fit};
 ghost use Rattle.object_kinds.specs.Layout.{members_of, events_of, waits_for_data};
 ghost use Rattle.data_objects.specs.Kept.{opening};
 ghost use Rattle.data_objects.specs.Layout.{initial_of, receiver_of, IsUnqueuedGroup};

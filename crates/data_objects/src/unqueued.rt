@@ -1,8 +1,7 @@
 //! A group of joined unqueued data elements.
 
 ghost use Rattle.std.specs.Prelude.{◌≡◌, ◌<◌, ◌≤◌, ◌+◌, ◌⊎◌, ℕ, count_by, false, length, not, IfOk, slice_get, Some, is_some};
-ghost use Rattle.std.specs.List.{Contains};
-ghost use Rattle.std.specs.Vec.{vec_capacity};
+ghost use Rattle.bus_semantics.specs.Common.{Contains, vec_capacity};
 ghost use Rattle.data_objects.specs.Flags.{IsOfClear};
 ghost use Rattle.data_objects.specs.KeptValues.{fresh, after_write, after_invalidation, after_read, after_start, value_for};
 

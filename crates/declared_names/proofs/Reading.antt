@@ -1,10 +1,12 @@
 -- A value that was read has at most half as many values in it as its text has bytes, and one: each but the first costs a byte and
 -- stands behind a comma, a colon, or an open bracket, which has to be closed.
-use Rattle.std.proofs.Common.{◌≡◌, ℕ, zero, suc, ◌+◌, ◌*◌, ◌^◌, ◌≤◌, Bool, true, false, List, [], ◌∷◌, length, Option, Some, None, option_map, option_and_then, Ordering, Less, Equal, Greater, refl, subst, arith}
+use Rattle.std.proofs.Common.{◌≡◌, ℕ, zero, suc, ◌+◌, ◌*◌, ◌^◌, ◌≤◌, Bool, true, false, List, [], ◌∷◌, length, Option, Some, None, option_map, option_and_then, Ordering, Less, Equal}
+use Rattle.std.proofs.Common.{Greater, refl, subst, arith}
 use Rattle.std.specs.Prelude.{⊤}
 use Rattle.std.specs.Ordering.{match_ordering}
 use Rattle.json.specs.Token.{Token}
-use Rattle.json.specs.Lex.{Mode, between, in_word, in_string, in_escape, Class, quote, backslash, operator, space, other, class, lex_byte, lex, Lexeme, token, comma, colon, Place, fresh, after_value, after_comma, after_key, if_allowed, may_begin, place_token, begins_colon, punctuate, tokens}
+use Rattle.json.specs.Lex.{Mode, between, in_word, in_string, in_escape, Class, quote, backslash, operator, space, other, class, lex_byte, lex, Lexeme, token, comma, colon, Place, fresh}
+use Rattle.json.specs.Lex.{after_value, after_comma, after_key, if_allowed, may_begin, place_token, begins_colon, punctuate, tokens}
 use Rattle.json.specs.Json as json
 use Rattle.serde_json.specs.Data.{Data, number, array, object, Items, item, Members, no_members, member, put}
 use Rattle.serde_json.specs.Read.{number_of, of_json, of_items, of_members, max_depth, read}

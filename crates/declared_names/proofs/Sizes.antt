@@ -1,5 +1,6 @@
 -- What is in a value of few values, and how many names it declares.
-use Rattle.std.proofs.Common.{◌≡◌, ℕ, zero, suc, ◌+◌, ◌^◌, ◌<◌, ◌≤◌, List, [], ◌∷◌, length, map, get_or, slice_get, slice_index_or, codes, bytes_eq, Bool, true, false, cond, Option, Some, None, unwrap_or, option_and_then, Ordering, Less, Equal, Greater, Bor, refl, sym, ap, subst, ◌∙◌, arith}
+use Rattle.std.proofs.Common.{◌≡◌, ℕ, zero, suc, ◌+◌, ◌^◌, ◌<◌, ◌≤◌, List, [], ◌∷◌, length, map, get_or, slice_get, slice_index_or, codes, bytes_eq, Bool, true, false, cond, Option, Some}
+use Rattle.std.proofs.Common.{None, unwrap_or, option_and_then, Ordering, Less, Equal, Greater, Bor, refl, sym, ap, subst, ◌∙◌, arith}
 use Rattle.std.proofs.lemmas.List.{length-map}
 use Rattle.std.specs.Cmp.Lexicographic.{slice_cmp}
 use Rattle.std.specs.Ordering.{nat_cmp, match_ordering}

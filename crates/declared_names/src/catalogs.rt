@@ -2,7 +2,8 @@
 
 ghost use Rattle.std.specs.Prelude.{◌≡◌, IfOk, codes, map};
 ghost use Rattle.serde_json.specs.View.{view};
-ghost use Rattle.declared_names.specs.Catalogs.{access_firsts, behavior_lists, catalog_of, com_spec_firsts, component_lists, composition_lists, firsts_in, interface_at, interface_lists, mapping_lists, mode_firsts, operation_firsts, port_lists, prototype_lists, prototype_type, type_lists, type_number, value_at};
+ghost use Rattle.declared_names.specs.Catalogs.{access_firsts, behavior_lists, catalog_of, com_spec_firsts, component_lists, composition_lists, firsts_in, interface_at, interface_lists};
+ghost use Rattle.declared_names.specs.Catalogs.{mapping_lists, mode_firsts, operation_firsts, port_lists, prototype_lists, prototype_type, type_lists, type_number, value_at};
 ghost use Rattle.declared_names.specs.Names.{short_names, text_of, texts};
 ghost use Rattle.declared_names.specs.Scopes.{item_names};
 ghost use Rattle.declared_names.specs.Values.{items_at, text_at};

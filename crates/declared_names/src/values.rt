@@ -3,7 +3,8 @@
 ghost use Rattle.std.specs.Prelude.{◌≡◌, ◌<◌, ◌^◌, ℕ, IfOk, map, option_map, slice_get, unwrap_or};
 ghost use Rattle.serde_json.specs.Find.{get};
 ghost use Rattle.serde_json.specs.View.{view};
-ghost use Rattle.declared_names.specs.Values.{below, flag_at, items_at, items_in, items_of_part, number_at, number_of_part, seen, text_at, text_at_in, text_in, text_of_part, text_of_part_at, word_at, word_in};
+ghost use Rattle.declared_names.specs.Values.{below, flag_at, items_at, items_in, items_of_part, number_at, number_of_part, seen, text_at, text_at_in, text_in, text_of_part};
+ghost use Rattle.declared_names.specs.Values.{text_of_part_at, word_at, word_in};
 
 use rte_text::{Memory, Text};
 use rte_value::Word;

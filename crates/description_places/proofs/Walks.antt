@@ -1,5 +1,6 @@
 -- One more turn of the walk.
-use Rattle.std.proofs.Common.{◌≡◌, ℕ, ◌+◌, ◌<◌, List, [], ◌++◌, map, drop, length, get_or, Bool, cond, Option, Some, None, option_map, is_eq, nat_cmp, Ordering, Less, Equal, Greater, String, Global, string_bytes, Bor, Result, Ok, Err, IfOk, refl, rules, sym, ap, ◌∙◌}
+use Rattle.std.proofs.Common.{◌≡◌, ℕ, ◌+◌, ◌<◌, List, [], ◌++◌, map, drop, length, get_or, Bool, cond, Option, Some, None, option_map, is_eq, nat_cmp, Ordering, Less, Equal, Greater, String}
+use Rattle.std.proofs.Common.{Global, string_bytes, Bor, Result, Ok, Err, IfOk, refl, rules, sym, ap, ◌∙◌}
 use Rattle.std.proofs.lemmas.List.{at_drop_more}
 use Rattle.std.proofs.lemmas.List.Folds.{find-append}
 use Rattle.std.proofs.lemmas.Map.Text.{is_eq-slice_cmp}

@@ -6,7 +6,12 @@ use Rattle.serde_json.specs.Data.{Data}
 use Rattle.serde_json.specs.Find.{get, at, as_number, as_str}
 use Rattle.description_places.specs.declared.alternatives.Alternative.{Alternative}
 use Rattle.description_places.specs.declared.kind.Kind.{Kind}
-use Rattle.description_places.specs.declared.kind.Kind.TheVariants.{SenderReceiverInterface, ClientServerInterface, ModeSwitchInterface, UnknownInterface, TimingEvent, InitEvent, DataReceivedEvent, OperationInvokedEvent, CallReturnsEvent, ModeSwitchEvent, ModeTransitionEvent, ModeSwitchAckEvent, UnknownEvent, AssemblyConnector, DelegationConnector, UnknownConnector, Interface, Event, Connector, Access, Statement, Expression, ItemAccess, VariableAccess, PortAccess, AreaAccess, UnknownAccess, SetStatement, IfStatement, RepeatStatement, AreaStatement, GivingStatement, TakingStatement, ItemStatement, LateWrite, EarlyRead, VariableWrite, VariableRead, CallStatement, SwitchStatement, ModeStatement, UnknownStatement, Operator, UnknownExpression, LocalName, Constant}
+use Rattle.description_places.specs.declared.kind.Kind.TheVariants.{SenderReceiverInterface, ClientServerInterface, ModeSwitchInterface, UnknownInterface, TimingEvent, InitEvent}
+use Rattle.description_places.specs.declared.kind.Kind.TheVariants.{DataReceivedEvent, OperationInvokedEvent, CallReturnsEvent, ModeSwitchEvent, ModeTransitionEvent, ModeSwitchAckEvent}
+use Rattle.description_places.specs.declared.kind.Kind.TheVariants.{UnknownEvent, AssemblyConnector, DelegationConnector, UnknownConnector, Interface, Event, Connector, Access, Statement}
+use Rattle.description_places.specs.declared.kind.Kind.TheVariants.{Expression, ItemAccess, VariableAccess, PortAccess, AreaAccess, UnknownAccess, SetStatement, IfStatement, RepeatStatement}
+use Rattle.description_places.specs.declared.kind.Kind.TheVariants.{AreaStatement, GivingStatement, TakingStatement, ItemStatement, LateWrite, EarlyRead, VariableWrite, VariableRead}
+use Rattle.description_places.specs.declared.kind.Kind.TheVariants.{CallStatement, SwitchStatement, ModeStatement, UnknownStatement, Operator, UnknownExpression, LocalName, Constant}
 
 -- a word, and the kind that it names
 pub record Choice : Type 0 where

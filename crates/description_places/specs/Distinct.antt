@@ -7,7 +7,11 @@ use Rattle.declared_names.specs.declared.catalogs.TypeNumber.TheVariants as of
 use Rattle.declared_names.specs.Names.{Names, has_name, position_in}
 use Rattle.declared_names.specs.Values.{text_in}
 use Rattle.description_places.specs.declared.kind.Kind.{Kind}
-use Rattle.description_places.specs.declared.kind.Kind.TheVariants.{DataType, ModeGroup, SenderReceiverInterface, ClientServerInterface, ModeSwitchInterface, UnknownInterface, DataElement, Operation, Argument, OperationError, Component, Port, Variable, Runnable, TimingEvent, InitEvent, DataReceivedEvent, OperationInvokedEvent, CallReturnsEvent, ModeSwitchEvent, ModeTransitionEvent, ModeSwitchAckEvent, UnknownEvent, Composition, Prototype, Task, DeclaredName, DeclaredMode, DeclaredArea, ComSpecItem, Position, ItemAccess, VariableAccess, PortAccess, AreaAccess}
+use Rattle.description_places.specs.declared.kind.Kind.TheVariants.{DataType, ModeGroup, SenderReceiverInterface, ClientServerInterface, ModeSwitchInterface, UnknownInterface, DataElement}
+use Rattle.description_places.specs.declared.kind.Kind.TheVariants.{Operation, Argument, OperationError, Component, Port, Variable, Runnable, TimingEvent, InitEvent, DataReceivedEvent}
+use Rattle.description_places.specs.declared.kind.Kind.TheVariants.{OperationInvokedEvent, CallReturnsEvent, ModeSwitchEvent, ModeTransitionEvent, ModeSwitchAckEvent, UnknownEvent}
+use Rattle.description_places.specs.declared.kind.Kind.TheVariants.{Composition, Prototype, Task, DeclaredName, DeclaredMode, DeclaredArea, ComSpecItem, Position, ItemAccess, VariableAccess}
+use Rattle.description_places.specs.declared.kind.Kind.TheVariants.{PortAccess, AreaAccess}
 use Rattle.description_places.specs.Around.{number_of, owner_of, type_around}
 use Rattle.description_places.specs.Owners.{component_of, composition_of}
 use Rattle.description_places.specs.Shape.{holds}

@@ -2,7 +2,19 @@
 use Rattle.description_places.specs.declared.form.Form.{Form}
 use Rattle.description_places.specs.declared.form.Form.TheVariants as form
 use Rattle.description_places.specs.declared.kind.Kind.{Kind}
-use Rattle.description_places.specs.declared.kind.Kind.TheVariants.{Anything, DataType, ModeGroup, DataElement, Operation, Argument, OperationError, Component, Port, ComSpec, Variable, Runnable, Composition, Prototype, Task, MappedEvent, Interface, Event, Connector, Access, Statement, Expression, DataTypes, ModeGroups, DeclaredModes, Interfaces, DataElements, Operations, Arguments, OperationErrors, Components, Ports, ComSpecs, Words, DeclaredAreas, Variables, Runnables, Accesses, CoherentLists, CoherentList, Statements, Events, OneMode, TwoModes, SomeModes, Compositions, Prototypes, Connectors, Tasks, MappedEvents, Expressions, LocalNames, PortOfPrototype, ItemAccess, VariableAccess, PortAccess, AreaAccess, UnknownAccess, ItemPair, SetStatement, IfStatement, RepeatStatement, AreaStatement, GivingStatement, TakingStatement, ItemStatement, LateWrite, EarlyRead, VariableWrite, VariableRead, CallStatement, SwitchStatement, ModeStatement, UnknownStatement, Operator, UnknownExpression, DeclaredName, DeclaredMode, DeclaredArea, RootName, InitialMode, TypeName, GroupName, InterfaceName, ComSpecItem, RunnableName, ComponentPort, EventItem, AccessItem, PairItem, AreaName, VariableName, ModeName, PrototypeTypeName, JoinedPrototype, JoinedPort, OuterPort, TaskName, EventName, LocalName, InstancePath, BaseType, Policy, Direction, PortKind, InterfaceKind, EventKind, ConnectorKind, Activation, Limit, Word, CoreNumber, Constant, WordCount, ErrorNumber, QueueLength, Period, CoreCount, Position, RepeatCount, Flag}
+use Rattle.description_places.specs.declared.kind.Kind.TheVariants.{Anything, DataType, ModeGroup, DataElement, Operation, Argument, OperationError, Component, Port, ComSpec, Variable}
+use Rattle.description_places.specs.declared.kind.Kind.TheVariants.{Runnable, Composition, Prototype, Task, MappedEvent, Interface, Event, Connector, Access, Statement, Expression}
+use Rattle.description_places.specs.declared.kind.Kind.TheVariants.{DataTypes, ModeGroups, DeclaredModes, Interfaces, DataElements, Operations, Arguments, OperationErrors, Components, Ports}
+use Rattle.description_places.specs.declared.kind.Kind.TheVariants.{ComSpecs, Words, DeclaredAreas, Variables, Runnables, Accesses, CoherentLists, CoherentList, Statements, Events, OneMode}
+use Rattle.description_places.specs.declared.kind.Kind.TheVariants.{TwoModes, SomeModes, Compositions, Prototypes, Connectors, Tasks, MappedEvents, Expressions, LocalNames, PortOfPrototype}
+use Rattle.description_places.specs.declared.kind.Kind.TheVariants.{ItemAccess, VariableAccess, PortAccess, AreaAccess, UnknownAccess, ItemPair, SetStatement, IfStatement, RepeatStatement}
+use Rattle.description_places.specs.declared.kind.Kind.TheVariants.{AreaStatement, GivingStatement, TakingStatement, ItemStatement, LateWrite, EarlyRead, VariableWrite, VariableRead}
+use Rattle.description_places.specs.declared.kind.Kind.TheVariants.{CallStatement, SwitchStatement, ModeStatement, UnknownStatement, Operator, UnknownExpression, DeclaredName, DeclaredMode}
+use Rattle.description_places.specs.declared.kind.Kind.TheVariants.{DeclaredArea, RootName, InitialMode, TypeName, GroupName, InterfaceName, ComSpecItem, RunnableName, ComponentPort}
+use Rattle.description_places.specs.declared.kind.Kind.TheVariants.{EventItem, AccessItem, PairItem, AreaName, VariableName, ModeName, PrototypeTypeName, JoinedPrototype, JoinedPort}
+use Rattle.description_places.specs.declared.kind.Kind.TheVariants.{OuterPort, TaskName, EventName, LocalName, InstancePath, BaseType, Policy, Direction, PortKind, InterfaceKind, EventKind}
+use Rattle.description_places.specs.declared.kind.Kind.TheVariants.{ConnectorKind, Activation, Limit, Word, CoreNumber, Constant, WordCount, ErrorNumber, QueueLength, Period, CoreCount}
+use Rattle.description_places.specs.declared.kind.Kind.TheVariants.{Position, RepeatCount, Flag}
 
 -- what a value of the kind is: a kind that is not named here is an object
 abbrev pub form_of : Kind → Form

@@ -3,7 +3,17 @@ use Rattle.std.specs.Prelude.{ℕ, List, [], ◌∷◌, Bool, true, false, codes
 use Prim.Native.String.{String}
 use Rattle.description_places.specs.declared.keys.Field.{Field}
 use Rattle.description_places.specs.declared.kind.Kind.{Kind}
-use Rattle.description_places.specs.declared.kind.Kind.TheVariants.{Anything, Description, DataType, ModeGroup, SenderReceiverInterface, ClientServerInterface, ModeSwitchInterface, UnknownInterface, DataElement, Operation, Argument, OperationError, ModeElement, Component, Port, ComSpec, Behavior, Variable, Runnable, TimingEvent, InitEvent, DataReceivedEvent, OperationInvokedEvent, CallReturnsEvent, ModeSwitchEvent, ModeTransitionEvent, ModeSwitchAckEvent, UnknownEvent, DisabledModes, Composition, Prototype, AssemblyConnector, DelegationConnector, UnknownConnector, Mapping, Task, MappedEvent, DataTypes, ModeGroups, DeclaredModes, Interfaces, DataElements, Operations, Arguments, OperationErrors, Components, Ports, ComSpecs, Words, DeclaredAreas, Variables, Runnables, Accesses, CoherentLists, Statements, Events, OneMode, TwoModes, SomeModes, Compositions, Prototypes, Connectors, Tasks, MappedEvents, PortOfPrototype, DeclaredName, RootName, InitialMode, TypeName, GroupName, InterfaceName, ComSpecItem, RunnableName, ComponentPort, EventItem, PrototypeTypeName, OuterPort, TaskName, EventName, InstancePath, BaseType, Policy, Direction, PortKind, InterfaceKind, EventKind, ConnectorKind, Activation, Limit, CoreNumber, WordCount, ErrorNumber, QueueLength, Period, CoreCount, Position, Flag}
+use Rattle.description_places.specs.declared.kind.Kind.TheVariants.{Anything, Description, DataType, ModeGroup, SenderReceiverInterface, ClientServerInterface, ModeSwitchInterface}
+use Rattle.description_places.specs.declared.kind.Kind.TheVariants.{UnknownInterface, DataElement, Operation, Argument, OperationError, ModeElement, Component, Port, ComSpec, Behavior}
+use Rattle.description_places.specs.declared.kind.Kind.TheVariants.{Variable, Runnable, TimingEvent, InitEvent, DataReceivedEvent, OperationInvokedEvent, CallReturnsEvent, ModeSwitchEvent}
+use Rattle.description_places.specs.declared.kind.Kind.TheVariants.{ModeTransitionEvent, ModeSwitchAckEvent, UnknownEvent, DisabledModes, Composition, Prototype, AssemblyConnector}
+use Rattle.description_places.specs.declared.kind.Kind.TheVariants.{DelegationConnector, UnknownConnector, Mapping, Task, MappedEvent, DataTypes, ModeGroups, DeclaredModes, Interfaces}
+use Rattle.description_places.specs.declared.kind.Kind.TheVariants.{DataElements, Operations, Arguments, OperationErrors, Components, Ports, ComSpecs, Words, DeclaredAreas, Variables}
+use Rattle.description_places.specs.declared.kind.Kind.TheVariants.{Runnables, Accesses, CoherentLists, Statements, Events, OneMode, TwoModes, SomeModes, Compositions, Prototypes}
+use Rattle.description_places.specs.declared.kind.Kind.TheVariants.{Connectors, Tasks, MappedEvents, PortOfPrototype, DeclaredName, RootName, InitialMode, TypeName, GroupName, InterfaceName}
+use Rattle.description_places.specs.declared.kind.Kind.TheVariants.{ComSpecItem, RunnableName, ComponentPort, EventItem, PrototypeTypeName, OuterPort, TaskName, EventName, InstancePath}
+use Rattle.description_places.specs.declared.kind.Kind.TheVariants.{BaseType, Policy, Direction, PortKind, InterfaceKind, EventKind, ConnectorKind, Activation, Limit, CoreNumber, WordCount}
+use Rattle.description_places.specs.declared.kind.Kind.TheVariants.{ErrorNumber, QueueLength, Period, CoreCount, Position, Flag}
 
 -- a key of an object: its text, whether it may not be missing, and the kind of its value
 pub record Key : Type 0 where

@@ -10,7 +10,8 @@ use Rattle.declared_names.specs.declared.catalogs.TypeNumber.TheVariants as of
 use Rattle.declared_names.specs.Names.{has_at, has_name, position_in, texts}
 use Rattle.declared_names.specs.Values.{items_at, text_at, text_in, text_of_part}
 use Rattle.description_places.specs.declared.kind.Kind.{Kind}
-use Rattle.description_places.specs.declared.kind.Kind.TheVariants.{TypeName, GroupName, InterfaceName, PrototypeTypeName, RootName, TaskName, InitialMode, RunnableName, ComponentPort, OuterPort, AreaName, VariableName, ComSpecItem, EventItem, AccessItem, PairItem, JoinedPrototype, JoinedPort, CoreNumber}
+use Rattle.description_places.specs.declared.kind.Kind.TheVariants.{TypeName, GroupName, InterfaceName, PrototypeTypeName, RootName, TaskName, InitialMode, RunnableName, ComponentPort}
+use Rattle.description_places.specs.declared.kind.Kind.TheVariants.{OuterPort, AreaName, VariableName, ComSpecItem, EventItem, AccessItem, PairItem, JoinedPrototype, JoinedPort, CoreNumber}
 use Rattle.description_places.specs.Around.{number_at, value_at, type_around}
 use Rattle.description_places.specs.Owners.{component_of, composition_of}
 use Rattle.description_places.specs.Shape.{holds}

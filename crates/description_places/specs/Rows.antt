@@ -2,7 +2,11 @@
 use Rattle.std.specs.Prelude.{ℕ, List, [], ◌∷◌, codes}
 use Rattle.std.specs.Borrow.{Bor}
 use Rattle.description_places.specs.declared.kind.Kind.{Kind}
-use Rattle.description_places.specs.declared.kind.Kind.TheVariants.{Anything, Expression, Statements, Expressions, LocalNames, PortOfPrototype, ItemAccess, VariableAccess, PortAccess, AreaAccess, ItemPair, SetStatement, IfStatement, RepeatStatement, AreaStatement, GivingStatement, TakingStatement, ItemStatement, LateWrite, EarlyRead, VariableWrite, VariableRead, CallStatement, SwitchStatement, ModeStatement, Operator, ComponentPort, AccessItem, PairItem, AreaName, VariableName, ModeName, JoinedPrototype, JoinedPort, LocalName, BaseType, Policy, Direction, PortKind, InterfaceKind, EventKind, ConnectorKind, Activation, RepeatCount}
+use Rattle.description_places.specs.declared.kind.Kind.TheVariants.{Anything, Expression, Statements, Expressions, LocalNames, PortOfPrototype, ItemAccess, VariableAccess, PortAccess}
+use Rattle.description_places.specs.declared.kind.Kind.TheVariants.{AreaAccess, ItemPair, SetStatement, IfStatement, RepeatStatement, AreaStatement, GivingStatement, TakingStatement}
+use Rattle.description_places.specs.declared.kind.Kind.TheVariants.{ItemStatement, LateWrite, EarlyRead, VariableWrite, VariableRead, CallStatement, SwitchStatement, ModeStatement, Operator}
+use Rattle.description_places.specs.declared.kind.Kind.TheVariants.{ComponentPort, AccessItem, PairItem, AreaName, VariableName, ModeName, JoinedPrototype, JoinedPort, LocalName, BaseType}
+use Rattle.description_places.specs.declared.kind.Kind.TheVariants.{Policy, Direction, PortKind, InterfaceKind, EventKind, ConnectorKind, Activation, RepeatCount}
 
 -- what the parts of an array are, the first of a statement, access or operator its keyword
 abbrev pub row_of : Kind → List Kind

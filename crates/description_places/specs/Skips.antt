@@ -4,7 +4,9 @@ use Rattle.serde_json.specs.Data.{Data}
 use Rattle.description_places.specs.declared.form.Form.{Form}
 use Rattle.description_places.specs.declared.form.Form.TheVariants as form
 use Rattle.description_places.specs.declared.kind.Kind.{Kind}
-use Rattle.description_places.specs.declared.kind.Kind.TheVariants.{DeclaredName, DeclaredMode, DeclaredArea, ComSpecItem, Position, TypeName, GroupName, InterfaceName, PrototypeTypeName, RootName, TaskName, InitialMode, RunnableName, ComponentPort, OuterPort, AreaName, VariableName, EventItem, AccessItem, PairItem, JoinedPrototype, JoinedPort, CoreNumber}
+use Rattle.description_places.specs.declared.kind.Kind.TheVariants.{DeclaredName, DeclaredMode, DeclaredArea, ComSpecItem, Position, TypeName, GroupName, InterfaceName, PrototypeTypeName}
+use Rattle.description_places.specs.declared.kind.Kind.TheVariants.{RootName, TaskName, InitialMode, RunnableName, ComponentPort, OuterPort, AreaName, VariableName, EventItem, AccessItem}
+use Rattle.description_places.specs.declared.kind.Kind.TheVariants.{PairItem, JoinedPrototype, JoinedPort, CoreNumber}
 use Rattle.description_places.specs.Forms.{form_of}
 use Rattle.description_places.specs.Spots.{Spot}
 use Rattle.description_places.specs.Visits.{Visit, visits, first_broken}

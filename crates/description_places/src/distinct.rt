@@ -4,7 +4,8 @@ ghost use Rattle.std.specs.Prelude.{◌≡◌, Some, option_and_then, option_cop
 ghost use Rattle.serde_json.specs.View.{view};
 ghost use Rattle.declared_names.specs.declared.catalogs.TypeNumber.TheVariants as of;
 ghost use Rattle.description_places.specs.Around.{number_of, owner_of, type_around};
-ghost use Rattle.description_places.specs.Distinct.{breaks_distinct, composition_before, firsts_of_operation, firsts_of_port, is_access_before, is_later, is_later_in, is_named_before, is_repeated, item_before, port_before, stands_before};
+ghost use Rattle.description_places.specs.Distinct.{breaks_distinct, composition_before, firsts_of_operation, firsts_of_port, is_access_before, is_later, is_later_in, is_named_before};
+ghost use Rattle.description_places.specs.Distinct.{is_repeated, item_before, port_before, stands_before};
 ghost use Rattle.description_places.specs.Owners.{component_of, composition_of};
 ghost use Rattle.description_places.specs.Shape.{holds};
 ghost use Rattle.description_places.specs.Trails.{spot_of};

@@ -1,14 +1,11 @@
 -- What the accesses of a runnable keep.
 use Rattle.std.proofs.Common.{◌≡◌, ℕ, suc, List, [], ◌∷◌, ◌++◌, map, length, Bool, true, false, not, ◌&&◌, eqb, ltb, codes, Some, refl, sym, ap, subst, arith, ◌∙◌, inl, inr}
-use Rattle.std.specs.List.{list_all, list_any, slice_get, slice_index_or}
-use Rattle.std.specs.Option.{option_and_then, unwrap_or}
-use Rattle.std.proofs.lemmas.Bool.{and_parts, and_from, false≢true, eqb-true, or_from, false_from_ne_true}
+use Rattle.bus_semantics.specs.Common.{list_all, list_any, slice_get, slice_index_or, option_and_then, unwrap_or, and_parts, and_from, false≢true, eqb-true, or_from, false_from_ne_true}
+use Rattle.bus_semantics.specs.Common.{AccessKind, kind_number}
 use Rattle.serde_json.specs.Data.{Data, null, boolean, number, string, array, object, Items, no_items, item}
 use Rattle.serde_json.specs.Events.{items_len}
 use Rattle.serde_json.specs.Find.{get, get_item}
-use Rattle.runnable_lang.specs.declared.program.AccessKind.{AccessKind}
 use Rattle.runnable_lang.specs.declared.program.AccessKind.TheVariants as kind
-use Rattle.runnable_lang.specs.Accesses.{kind_number}
 use Rattle.description_places.specs.declared.kind.Kind.{Kind}
 use Rattle.description_places.specs.declared.kind.Kind.TheVariants as of_kind
 use Rattle.description_places.specs.declared.kind.Kind.TheVariants.{Description}
@@ -25,9 +22,7 @@ use Rattle.description_places.specs.Owners.{component_of}
 use Rattle.description_places.specs.References.{port_has}
 use Rattle.description_places.specs.Shape.{holds, part_count}
 use Rattle.description_places.specs.Spots.{Spot, Level, top, inside, inside_part}
-use Rattle.description_types.specs.declared.interface.TypeTable.{TypeTable}
-use Rattle.description_types.specs.declared.component.Access.{Access}
-use Rattle.description_types.specs.declared.component.Port.{Port}
+use Rattle.plan_definitions.specs.Common.{TypeTable, Access, Port, accesses_distinct, items_of_port, same_access}
 use Rattle.declared_names.specs.declared.in_component.ComponentNames.{ComponentNames}
 use Rattle.declared_names.specs.declared.scopes.InterfaceNames.{InterfaceNames}
 use Rattle.declared_names.specs.Components.{component_names, item_in}
@@ -38,7 +33,6 @@ use Rattle.component_model.specs.Components.{access_reading, item_of_access, por
 use Rattle.component_model.specs.Ports.{port_reading}
 use Rattle.component_model.specs.Types.{types_reading}
 use Rattle.program_reading.specs.Words.{access_kind_of}
-use Rattle.plan_definitions.specs.WellFormed.{accesses_distinct, items_of_port, same_access}
 use Rattle.description_stages.proofs.Kept.{Kept, kept_part, shape_here, repeated_here, found_here}
 use Rattle.description_stages.proofs.Lists.{IsIn}
 use Rattle.description_stages.proofs.Naming.{all_listed, apart, EachFirst, on_list, rest_first}

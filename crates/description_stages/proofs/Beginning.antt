@@ -1,8 +1,6 @@
 -- The whole of a description that is read keeps what its parts do.
 use Rattle.std.proofs.Common.{◌≡◌, ℕ, List, [], ◌∷◌, false, true, not, None, refl, ap}
-use Rattle.std.specs.List.{All, list_all}
-use Rattle.std.proofs.lemmas.Bool.{and_from}
-use Rattle.std.proofs.lemmas.List.Elements.{All-head, All-tail}
+use Rattle.bus_semantics.specs.Common.{All, list_all, and_from, All-head, All-tail}
 use Rattle.serde_json.specs.Data.{Data}
 use Rattle.declared_names.specs.declared.catalogs.Catalog.{Catalog}
 use Rattle.declared_names.specs.Catalogs.{catalog_of}

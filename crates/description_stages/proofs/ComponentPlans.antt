@@ -1,33 +1,18 @@
 -- The rules on components, where programs are held elsewhere.
 use Rattle.std.proofs.Common.{◌≡◌, ℕ, List, map, Option, Some, option_map, option_and_then, refl, ap, ◌∙◌, ◌==◌, nat_lt}
-use Rattle.std.specs.List.{flat_map}
-use Rattle.std.specs.Option.{option_or}
-use Rattle.runnable_lang.specs.declared.program.AccessKind.{AccessKind}
+use Rattle.bus_semantics.specs.Common.{flat_map, option_or, AccessKind}
 use Rattle.runnable_lang.specs.declared.program.AccessKind.TheVariants as kind
 use Rattle.runnable_lang.specs.Refusals as programs
-use Rattle.description_types.specs.declared.interface.TypeTable.{TypeTable}
-use Rattle.description_types.specs.declared.component.Access.{Access}
-use Rattle.description_types.specs.declared.component.Component.{Component}
-use Rattle.description_types.specs.declared.component.Event.{Event}
-use Rattle.description_types.specs.declared.component.EventKind.{EventKind}
-use Rattle.description_types.specs.declared.component.EventKind.TheVariants.{Timing, Init, DataReceived, OperationInvoked, CallReturns, ModeSwitch, ModeSwitchedAck}
-use Rattle.description_types.specs.declared.component.Runnable.{Runnable}
-use Rattle.description_types.specs.declared.description.Description.{Description}
+use Rattle.plan_definitions.specs.Common.{TypeTable, Access, Component, Event, EventKind, Timing, Init, DataReceived, OperationInvoked, CallReturns, ModeSwitchedAck, Runnable, Description}
+use Rattle.plan_definitions.specs.Common.{misfit, misfit_among, access_keeps, called, called_by, event_keeps, is_left, left, left_by, mixed, mixed_access, mixed_event, incoherent}
+use Rattle.plan_definitions.specs.Common.{incoherent_among, misplaced, wrongly_disabled, first_of, unless, wrongly_served, path_of, program_refusal, refused_in, broken_in, of_program}
+use Rattle.plan_definitions.specs.Common.{of_rule, signature, program_text, spot_text, count, same_operation}
+use Rattle.description_types.specs.declared.component.EventKind.TheVariants.{ModeSwitch}
 use Rattle.component_model.specs.Programs.{component_tree, runnable_tree}
 use Rattle.plan_definitions.specs.declared.component_rule.ComponentRule as rules
 use Rattle.plan_definitions.specs.declared.component_rule.ComponentRule.TheVariants as rule
 use Rattle.plan_definitions.specs.declared.spot.Spot.TheVariants as spot
-use Rattle.plan_definitions.specs.Accesses.{misfit, misfit_among}
-use Rattle.plan_definitions.specs.Calls.{access_keeps, called, called_by, event_keeps, is_left, left, left_by, mixed, mixed_access, mixed_event}
-use Rattle.plan_definitions.specs.Coherent.{incoherent, incoherent_among}
-use Rattle.plan_definitions.specs.Events.{misplaced, wrongly_disabled}
-use Rattle.plan_definitions.specs.Firsts.{first_of, unless}
-use Rattle.plan_definitions.specs.Invocations.{wrongly_served}
-use Rattle.plan_definitions.specs.Programs.{path_of, program_refusal, refused_in}
-use Rattle.plan_definitions.specs.ComponentRefusals.{broken_in, number_of, of_program, of_rule, refusal}
-use Rattle.plan_definitions.specs.Signatures.{signature}
-use Rattle.plan_definitions.specs.Spots.{program_text, spot_text}
-use Rattle.plan_definitions.specs.Counts.{count, same_operation}
+use Rattle.plan_definitions.specs.ComponentRefusals.{number_of, refusal}
 use Rattle.description_stages.proofs.Held.{bare, held_as, on_each, on_first, running}
 
 -- ---- a component

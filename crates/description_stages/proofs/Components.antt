@@ -1,18 +1,11 @@
 -- What the components of a description keep.
 use Rattle.std.proofs.Common.{◌≡◌, ℕ, suc, List, [], ◌∷◌, map, length, Bool, true, false, ◌&&◌, ◌||◌, eqb, ltb, codes, Some, refl, sym, ap, subst, ◌∙◌, Option}
-use Rattle.std.specs.Arc.{arc_value}
-use Rattle.std.specs.List.{list_all, list_any, slice_get}
-use Rattle.std.specs.Option.{option_map_or, unwrap_or}
-use Rattle.std.proofs.lemmas.Bool.{and_parts, and_from}
-use Rattle.std.proofs.lemmas.List.Folds.{list_all-map}
-use Rattle.std.proofs.lemmas.Option.{slice_get-map}
-use Rattle.std.proofs.lemmas.List.{length-map}
+use Rattle.bus_semantics.specs.Common.{arc_value, list_all, list_any, slice_get, option_map_or, unwrap_or, and_parts, and_from, list_all-map, slice_get-map, length-map, AccessKind}
+use Rattle.bus_semantics.specs.Common.{program_tree, is_well_formed}
 use mathlib.Core.List.{map-map}
 use Rattle.serde_json.specs.Data.{Data, null, array, Items, no_items, item}
 use Rattle.serde_json.specs.Find.{get, get_item}
-use Rattle.runnable_lang.specs.declared.program.AccessKind.{AccessKind}
 use Rattle.runnable_lang.specs.declared.program.AccessKind.TheVariants as kind
-use Rattle.runnable_lang.specs.Trees.{program_tree}
 use Rattle.description_places.specs.declared.kind.Kind.TheVariants as of_kind
 use Rattle.description_places.specs.declared.kind.Kind.TheVariants.{Description}
 use Rattle.description_places.specs.Distinct.{stands_before}
@@ -22,17 +15,10 @@ use Rattle.declared_names.specs.declared.catalogs.ComponentLists.{ComponentLists
 use Rattle.description_places.specs.Keys.{needed, optional}
 use Rattle.description_places.specs.Names.{is_name}
 use Rattle.description_places.specs.Spots.{Spot, top, inside, inside_part}
-use Rattle.description_types.specs.declared.interface.Interface.{Interface}
-use Rattle.description_types.specs.declared.interface.TypeTable.{TypeTable}
-use Rattle.description_types.specs.Refusals.{is_sound, operations_in}
-use Rattle.description_types.specs.declared.component.Component.{Component}
-use Rattle.description_types.specs.declared.component.DisabledInModes.{DisabledInModes}
-use Rattle.description_types.specs.declared.component.Event.{Event}
-use Rattle.description_types.specs.declared.component.EventKind.{EventKind}
-use Rattle.description_types.specs.declared.component.EventKind.TheVariants.{Timing, Init, DataReceived, OperationInvoked, CallReturns, ModeSwitch, ModeSwitchedAck}
-use Rattle.description_types.specs.declared.component.Port.{Port}
-use Rattle.description_types.specs.declared.component.Runnable.{Runnable}
-use Rattle.description_types.specs.declared.component.Variable.{Variable}
+use Rattle.plan_definitions.specs.Common.{Interface, TypeTable, is_sound, operations_in, Component, DisabledInModes, Event, EventKind, Timing, Init, DataReceived, OperationInvoked}
+use Rattle.plan_definitions.specs.Common.{CallReturns, ModeSwitchedAck, Port, Runnable, Variable, keeps, accesses_distinct, arguments_at, component_fits, event_fits, event_kind_fits}
+use Rattle.plan_definitions.specs.Common.{names_fit, ports_fit, runnable_fits, serves_fit, variable_fits}
+use Rattle.description_types.specs.declared.component.EventKind.TheVariants.{ModeSwitch}
 use Rattle.declared_names.specs.declared.in_component.ComponentNames.{ComponentNames}
 use Rattle.declared_names.specs.declared.scopes.InterfaceNames.{InterfaceNames}
 use Rattle.declared_names.specs.Components.{component_names}
@@ -40,12 +26,11 @@ use Rattle.declared_names.specs.Names.{position_in, texts}
 use Rattle.declared_names.specs.Scopes.{interface_names, scope_of, type_names}
 use Rattle.declared_names.specs.Values.{items_at, listed, text_at, text_in}
 use Rattle.component_model.specs.Components.{access_reading, event_reading, variable_reading}
-use Rattle.description_types.specs.Initials.{keeps}
 use Rattle.component_model.specs.Ports.{port_reading}
-use Rattle.component_model.specs.Programs.{behavior_in, behavior_reading, component_reading, component_tree, ComponentTree, first_names, invoked_events, runnable_names, runnable_reading, runnable_tree, RunnableTree}
+use Rattle.component_model.specs.Programs.{behavior_in, behavior_reading, component_reading, component_tree, ComponentTree, first_names, invoked_events, runnable_names, runnable_reading}
+use Rattle.component_model.specs.Programs.{runnable_tree, RunnableTree}
 use Rattle.component_model.specs.Types.{types_reading}
-use Rattle.bus_semantics.specs.SoundPrograms.{is_well_formed}
-use Rattle.plan_definitions.specs.WellFormed.{access_fits, accesses_distinct, arguments_at, component_fits, event_fits, event_kind_fits, names_fit, ports_fit, runnable_fits, serves_fit, variable_fits}
+use Rattle.plan_definitions.specs.WellFormed.{access_fits}
 use Rattle.description_stages.proofs.Accesses.{access_low, accesses_law}
 use Rattle.description_stages.proofs.Events.{event_low, events_law, kind_low, disabled_low}
 use Rattle.description_stages.proofs.Kept.{Kept, kept_part, repeated_here}

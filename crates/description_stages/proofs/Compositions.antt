@@ -1,7 +1,6 @@
 -- What the compositions of a description keep.
 use Rattle.std.proofs.Common.{◌≡◌, ℕ, List, map, length, Bool, true, false, ◌&&◌, ◌||◌, cond, ltb, codes, Some, refl, sym, ap, subst, ◌∙◌}
-use Rattle.std.specs.List.{list_all, slice_get}
-use Rattle.std.proofs.lemmas.Bool.{and_from}
+use Rattle.bus_semantics.specs.Common.{list_all, slice_get, and_from}
 use mathlib.Core.List.{map-map}
 use Rattle.serde_json.specs.Data.{Data, array, Items}
 use Rattle.serde_json.specs.Find.{get, get_item}
@@ -14,10 +13,7 @@ use Rattle.declared_names.specs.declared.catalogs.CompositionLists.{CompositionL
 use Rattle.description_places.specs.Keys.{needed, optional}
 use Rattle.description_places.specs.Shape.{holds}
 use Rattle.description_places.specs.Spots.{Spot, top, inside, inside_part}
-use Rattle.description_types.specs.declared.interface.TypeTable.{TypeTable}
-use Rattle.description_types.specs.declared.description.Composition.{Composition}
-use Rattle.description_types.specs.declared.description.Prototype.{Prototype}
-use Rattle.description_types.specs.declared.description.PrototypeType.{PrototypeType}
+use Rattle.plan_definitions.specs.Common.{TypeTable, Composition, Prototype, PrototypeType, names_fit, ports_fit}
 use Rattle.description_types.specs.declared.description.PrototypeType.TheVariants as of
 use Rattle.declared_names.specs.declared.scopes.InterfaceNames.{InterfaceNames}
 use Rattle.declared_names.specs.Names.{has_name, position_in, short_names}
@@ -25,7 +21,6 @@ use Rattle.declared_names.specs.Scopes.{interface_names, prototype_names, type_n
 use Rattle.declared_names.specs.Values.{items_at, listed, text_at, text_in}
 use Rattle.component_model.specs.Compositions.{composition_reading, prototype_reading, type_named}
 use Rattle.component_model.specs.Types.{types_reading}
-use Rattle.plan_definitions.specs.WellFormed.{names_fit, ports_fit}
 use Rattle.description_stages.proofs.Kept.{Kept, kept_part, found_here}
 use Rattle.description_stages.proofs.Naming.{all_listed, ByPlace, Objects, on_list, short_names_fit}
 use Rattle.description_stages.proofs.Ports.{ports_law}

@@ -1,8 +1,6 @@
 -- What the events of a component keep.
 use Rattle.std.proofs.Common.{◌≡◌, ℕ, ◌^◌, List, ◌∷◌, map, length, Bool, true, false, ◌&&◌, ltb, codes, Option, Some, None, refl, sym, ap, subst, arith, ◌∙◌, ◌⊎◌, inl, inr}
-use Rattle.std.specs.List.{list_all, slice_get}
-use Rattle.std.specs.Option.{option_map, option_map_or}
-use Rattle.std.proofs.lemmas.Bool.{and_from, false≢true}
+use Rattle.bus_semantics.specs.Common.{list_all, slice_get, option_map, option_map_or, and_from, false≢true, is_in}
 use mathlib.Core.List.{map-map}
 use Rattle.serde_json.specs.Data.{Data, array, Items}
 use Rattle.serde_json.specs.Find.{get, get_item}
@@ -23,12 +21,9 @@ use Rattle.description_places.specs.Owners.{component_of}
 use Rattle.description_places.specs.References.{port_has}
 use Rattle.description_places.specs.Shape.{holds}
 use Rattle.description_places.specs.Spots.{Spot, Level, top, inside, inside_part}
-use Rattle.description_types.specs.declared.interface.TypeTable.{TypeTable}
-use Rattle.description_types.specs.declared.component.DisabledInModes.{DisabledInModes}
-use Rattle.description_types.specs.declared.component.Event.{Event}
-use Rattle.description_types.specs.declared.component.EventKind.{EventKind}
-use Rattle.description_types.specs.declared.component.EventKind.TheVariants.{Timing, Init, DataReceived, OperationInvoked, CallReturns, ModeSwitch, ModeSwitchedAck}
-use Rattle.description_types.specs.declared.component.Port.{Port}
+use Rattle.plan_definitions.specs.Common.{TypeTable, DisabledInModes, Event, EventKind, Timing, Init, DataReceived, OperationInvoked, CallReturns, ModeSwitchedAck, Port, items_of_port}
+use Rattle.plan_definitions.specs.Common.{names_fit}
+use Rattle.description_types.specs.declared.component.EventKind.TheVariants.{ModeSwitch}
 use Rattle.declared_names.specs.declared.in_component.ComponentNames.{ComponentNames}
 use Rattle.declared_names.specs.declared.scopes.InterfaceNames.{InterfaceNames}
 use Rattle.declared_names.specs.Components.{component_names}
@@ -38,8 +33,6 @@ use Rattle.declared_names.specs.Values.{items_at, listed, text_at, text_in}
 use Rattle.component_model.specs.Components.{disabling_reading, event_kind_reading, event_reading, item_of_event, port_of_event}
 use Rattle.component_model.specs.Ports.{port_reading}
 use Rattle.component_model.specs.Types.{types_reading}
-use Rattle.bus_semantics.specs.SoundPlan.{is_in}
-use Rattle.plan_definitions.specs.WellFormed.{items_of_port, names_fit}
 use Rattle.description_stages.proofs.Shapes.{is_object}
 use Rattle.description_stages.proofs.Kept.{Kept, kept_part, shape_here, found_here}
 use Rattle.description_stages.proofs.Naming.{all_listed, ByPlace, Objects, on_list, short_names_fit}

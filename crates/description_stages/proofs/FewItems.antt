@@ -2,12 +2,7 @@
 use Rattle.std.proofs.Common.{◌≡◌, ℕ, zero, suc, ◌^◌, ◌<◌, Bool, true, false, cond, List, [], ◌∷◌, map, slice_get, length, Some, codes, bytes_eq, refl, sym, ap, subst, ◌∙◌, arith}
 use Rattle.std.proofs.lemmas.List.{length-map}
 use Rattle.serde_json.specs.Data.{Data}
-use Rattle.description_types.specs.declared.description.Description.{Description}
-use Rattle.description_types.specs.declared.interface.DataElement.{DataElement}
-use Rattle.description_types.specs.declared.interface.Interface.{Interface}
-use Rattle.description_types.specs.declared.interface.InterfaceKind.TheVariants.{SenderReceiver, ClientServer, ModeSwitch}
-use Rattle.description_types.specs.declared.interface.ModeElement.{ModeElement}
-use Rattle.description_types.specs.declared.interface.Operation.{Operation}
+use Rattle.plan_definitions.specs.Common.{Description, DataElement, Interface, SenderReceiver, ClientServer, ModeSwitch, ModeElement, Operation}
 use Rattle.declared_names.specs.declared.scopes.TypeNames.{TypeNames}
 use Rattle.declared_names.specs.Scopes.{scope_of}
 use Rattle.declared_names.specs.Sizes.{AreFew, AreSmall, IsSmall}

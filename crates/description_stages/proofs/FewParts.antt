@@ -1,18 +1,11 @@
 -- A description that is read from a file lists few things of each kind.
-use Rattle.std.proofs.Common.{◌≡◌, ℕ, zero, suc, ◌^◌, ◌<◌, ◌≤◌, Bool, true, false, cond, List, [], ◌∷◌, map, slice_get, length, Option, Some, None, unwrap_or, codes, bytes_eq, refl, sym, ap, subst, ◌∙◌, arith}
+use Rattle.std.proofs.Common.{◌≡◌, ℕ, zero, suc, ◌^◌, ◌<◌, ◌≤◌, Bool, true, false, cond, List, [], ◌∷◌, map, slice_get, length, Option, Some, None, unwrap_or, codes, bytes_eq, refl, sym, ap}
+use Rattle.std.proofs.Common.{subst, ◌∙◌, arith}
 use Rattle.std.proofs.lemmas.List.{length-map}
 use Rattle.serde_json.specs.Data.{Data, null}
 use Rattle.serde_json.specs.Find.{get}
-use Rattle.description_types.specs.declared.interface.DataElement.{DataElement}
-use Rattle.description_types.specs.declared.interface.Interface.{Interface}
-use Rattle.description_types.specs.declared.interface.InterfaceKind.TheVariants.{SenderReceiver, ClientServer, ModeSwitch}
-use Rattle.description_types.specs.declared.interface.ModeElement.{ModeElement}
-use Rattle.description_types.specs.declared.interface.Operation.{Operation}
-use Rattle.description_types.specs.declared.component.Component.{Component}
-use Rattle.description_types.specs.declared.component.Runnable.{Runnable}
-use Rattle.description_types.specs.declared.description.Composition.{Composition}
-use Rattle.description_types.specs.declared.description.Description.{Description}
-use Rattle.description_types.specs.Members.{sum_of}
+use Rattle.plan_definitions.specs.Common.{DataElement, Interface, SenderReceiver, ClientServer, ModeSwitch, ModeElement, Operation, Component, Runnable, Composition, Description, sum_of}
+use Rattle.plan_definitions.specs.Common.{counted, HasFewInside, HasFewParts, item_count}
 use Rattle.declared_names.specs.declared.in_component.ComponentNames.{ComponentNames}
 use Rattle.declared_names.specs.declared.scopes.InterfaceNames.{InterfaceNames}
 use Rattle.declared_names.specs.declared.scopes.Scope.{Scope}
@@ -32,9 +25,6 @@ use Rattle.component_model.specs.Refusals.{IsRead}
 use Rattle.component_model.specs.Types.{data_element_reading, interface_kind_reading, interface_reading, mode_element_reading, operation_reading}
 use Rattle.plan_definitions.specs.declared.part.Part.{Part}
 use Rattle.plan_definitions.specs.declared.part.Part.TheVariants.{Runnables, Events, Areas}
-use Rattle.plan_definitions.specs.Parts.{counted}
-use Rattle.plan_definitions.specs.Sizes.{HasFewInside, HasFewParts}
-use Rattle.plan_definitions.specs.WellFormed.{item_count}
 
 -- ---- what stands in a list that is read
 

@@ -6,11 +6,11 @@ use Rattle.description_places.specs.declared.kind.Kind.TheVariants.{Description 
 use Rattle.declared_names.specs.Catalogs.{catalog_of}
 use Rattle.description_places.specs.Keys.{needed}
 use Rattle.description_places.specs.Spots.{top, inside}
-use Rattle.description_types.specs.declared.description.Description.{Description}
+use Rattle.plan_definitions.specs.Common.{Description, component_fits, composition_fits, IsWellFormed, mapping_fits, prototype_fits, types_fit, Composition, Prototype, PrototypeType}
+use Rattle.plan_definitions.specs.Common.{names_fit, ports_fit}
 use Rattle.declared_names.specs.Names.{position_in, short_names}
 use Rattle.declared_names.specs.Values.{items_at, text_at, text_in}
 use Rattle.component_model.specs.Descriptions.{description_of, reading, DescriptionTree}
-use Rattle.plan_definitions.specs.WellFormed.{component_fits, composition_fits, IsWellFormed, mapping_fits, prototype_fits, types_fit}
 use Rattle.description_stages.proofs.Beginning.{Whole}
 use Rattle.description_stages.proofs.Kept.{Kept, found_here}
 use Rattle.description_stages.proofs.Mappings.{fits_mapping, mapping_law}
@@ -21,16 +21,10 @@ use Rattle.description_stages.proofs.Components.{components_from, components_law
 use Rattle.description_stages.proofs.Compositions.{compositions_law, fits_composition, type_low}
 use Rattle.description_stages.proofs.Unbroken.{initials_kept, ports_keep, types_kept}
 use Rattle.description_stages.proofs.Lists.{list_all_more}
-use Rattle.std.specs.List.{list_all}
-use Rattle.std.proofs.lemmas.Bool.{and_parts, and_from}
-use Rattle.std.proofs.lemmas.List.{length-map}
-use Rattle.description_types.specs.declared.description.Composition.{Composition}
-use Rattle.description_types.specs.declared.description.Prototype.{Prototype}
-use Rattle.description_types.specs.declared.description.PrototypeType.{PrototypeType}
+use Rattle.bus_semantics.specs.Common.{list_all, and_parts, and_from, length-map}
 use Rattle.description_types.specs.declared.description.PrototypeType.TheVariants as of
 use Rattle.component_model.specs.Programs.{component_reading, component_tree}
 use Rattle.declared_names.specs.Scopes.{scope_of}
-use Rattle.plan_definitions.specs.WellFormed.{names_fit, ports_fit}
 
 mapping : (d : Description) → Whole (description_of d) → mapping_fits d ≡ true
 mapping d w = subst (λ m. fits_mapping m ≡ true) (sym (ap (λ (t : DescriptionTree). t.mapping) w.is_reading)) (mapping_law w.value w.kept)

@@ -1,28 +1,13 @@
 -- What is made flat of a description, and the rules on instances and connectors, where its programs are held elsewhere.
 use Rattle.std.proofs.Common.{◌≡◌, ℕ, zero, suc, ◌≤◌, List, [], ◌∷◌, ◌++◌, map, length, slice_get, codes, ◌&&◌, Option, Some, None, option_map, option_and_then, inl, inr, refl, sym, ap, subst, ◌∙◌}
 use Rattle.std.specs.List.{flat_map, enumerate_from}
-use Rattle.description_types.specs.declared.component.Component.{Component}
-use Rattle.description_types.specs.declared.component.PortKind.{PortKind}
-use Rattle.description_types.specs.declared.component.PortKind.TheVariants.{Provided, Required}
-use Rattle.description_types.specs.declared.description.Connector.{Connector}
-use Rattle.description_types.specs.declared.description.Connector.TheVariants.{Assembly, Delegation}
-use Rattle.description_types.specs.declared.description.Description.{Description}
-use Rattle.description_types.specs.declared.description.InnerPort.{InnerPort}
-use Rattle.description_types.specs.declared.description.PrototypeType.{PrototypeType}
+use Rattle.plan_definitions.specs.Common.{Component, PortKind, Provided, Required, Connector, Assembly, Delegation, Description, InnerPort, PrototypeType, is_one_kind, is_required, kind_in}
+use Rattle.plan_definitions.specs.Common.{lets_join, IsBrokenConnector, IsFirstBroken, IsFirst, IsPastLimit, interface_at, ItemsJoin, prototypes_of, type_at, type_in, ContainsItself, places}
+use Rattle.plan_definitions.specs.Common.{places_below, places_of, IsTooDeep, Flat, Join, IsFlatOf, IsRefusedAt, KeepsLimits, instances, name_at, name_in, prefix_at, written, as_inner}
+use Rattle.plan_definitions.specs.Common.{Assembles, Delegates, IsBelow, IsChain, IsJoined, IsOutside, Stand, StandsJoin, interface_below, stand_in, itself, further}
 use Rattle.description_types.specs.declared.description.PrototypeType.TheVariants as of_type
 use Rattle.component_model.specs.Programs.{component_tree}
-use Rattle.description_types.specs.Connectors.{interface_of, is_one_kind, is_provided, is_required, kind_in, kind_of, lets_join, ports_of, IsBrokenConnector, IsFirstBroken}
-use Rattle.description_types.specs.Firsts.{IsFirst}
-use Rattle.description_types.specs.Growing.{IsPastLimit}
-use Rattle.description_types.specs.Items.{interface_at, ItemsJoin}
-use Rattle.description_types.specs.Paths.{prototypes_of, type_at, type_in, ContainsItself}
-use Rattle.description_types.specs.Places.{places, places_below, places_of, IsTooDeep}
-use Rattle.description_types.specs.declared.flat.Flat.{Flat}
-use Rattle.description_types.specs.declared.flat.Join.{Join}
-use Rattle.description_types.specs.Flattening.{IsFlatOf, IsRefusedAt, KeepsLimits}
-use Rattle.description_types.specs.Instances.{instances, name_at, name_in, prefix_at, written}
-use Rattle.description_types.specs.Joined.{as_inner, Assembles, Delegates, IsBelow, IsChain, IsJoined, IsOutside, Stand, StandsJoin, interface_below, stand_in}
-use Rattle.description_types.specs.Joined.IsBelow.{itself, further}
+use Rattle.description_types.specs.Connectors.{interface_of, is_provided, kind_of, ports_of}
 use Rattle.description_stages.proofs.Held.{at_place, held_as, look}
 
 pub first_as : {P Q : ℕ → Type 0} (limit : ℕ) (o : Option ℕ) → ((n : ℕ) → P n → Q n) → ((n : ℕ) → Q n → P n) → IsFirst P limit o → IsFirst Q limit o

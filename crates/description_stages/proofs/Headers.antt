@@ -1,11 +1,7 @@
 -- What a header lists tells nothing of how programs are held.
 use Rattle.std.proofs.Common.{◌≡◌, List, [], ◌∷◌, map, Bool, true, false, cond, bytes_eq, Option, Some, None, option_map, refl, sym, ap, ◌∙◌}
-use Rattle.std.specs.List.{find, flat_map}
-use Rattle.std.proofs.lemmas.Option.{same_Some}
-use Rattle.description_types.specs.declared.interface.TypeTable.{TypeTable}
-use Rattle.description_types.specs.declared.component.Component.{Component}
-use Rattle.description_types.specs.declared.component.Runnable.{Runnable}
-use Rattle.description_types.specs.declared.description.Description.{Description}
+use Rattle.bus_semantics.specs.Common.{find, flat_map, same_Some}
+use Rattle.plan_definitions.specs.Common.{TypeTable, Component, Runnable, Description}
 use Rattle.component_model.specs.Descriptions.{description_of}
 use Rattle.component_model.specs.Programs.{component_tree, runnable_tree}
 use Rattle.api_header.specs.Headers.{header_for, header_of, header_with}

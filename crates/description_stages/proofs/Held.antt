@@ -1,18 +1,10 @@
 -- Descriptions whose programs are the same trees, held elsewhere in memory.
 use Rattle.std.proofs.Common.{◌≡◌, ℕ, suc, ◌+◌, List, [], ◌∷◌, ◌++◌, map, length, Option, Some, None, option_map, option_and_then, slice_get, refl, sym, ap, ◌∙◌}
-use Rattle.std.specs.Global.{Global}
+use Rattle.bus_semantics.specs.Common.{Global, flat_map, option_map_or, option_or, same_Some, slice_get-map, Program}
 use Rattle.std.specs.declared.sync.Arc.{Arc}
-use Rattle.std.specs.List.{flat_map}
-use Rattle.std.specs.Option.{option_map_or, option_or}
-use Rattle.std.proofs.lemmas.Option.{same_Some, slice_get-map}
-use Rattle.runnable_lang.specs.declared.program.Program.{Program}
-use Rattle.description_types.specs.declared.component.Component.{Component}
-use Rattle.description_types.specs.declared.component.Runnable.{Runnable}
-use Rattle.description_types.specs.declared.description.Description.{Description}
+use Rattle.plan_definitions.specs.Common.{Component, Runnable, Description, first_of, from}
 use Rattle.component_model.specs.Descriptions.{description_of}
 use Rattle.component_model.specs.Programs.{ComponentTree, RunnableTree, component_tree}
-use Rattle.plan_definitions.specs.Firsts.{first_of}
-use Rattle.plan_definitions.specs.Lists.{from}
 
 -- the description with these components
 abbrev pub held_as : Description → List Component → Description

@@ -1,26 +1,17 @@
 -- The rules on what is joined, where programs are held elsewhere.
 use Rattle.std.proofs.Common.{◌≡◌, ℕ, List, [], ◌++◌, map, codes, slice_get, false, if◌then◌else◌, Option, Some, None, option_map, option_and_then, refl, ap}
 use Rattle.std.specs.Option.{option_map_or, option_or}
-use Rattle.description_types.specs.declared.component.Component.{Component}
-use Rattle.description_types.specs.declared.component.Port.{Port}
-use Rattle.description_types.specs.declared.description.Composition.{Composition}
-use Rattle.description_types.specs.declared.description.Connector.{Connector}
+use Rattle.plan_definitions.specs.Common.{Component, Port, Composition, Connector, Description, InnerPort, PrototypeType, End, Flat, both, delegated, incompatible, inner_interface}
+use Rattle.plan_definitions.specs.Common.{joins_compatible, sides, first_of, are_compatible, first_broken, in_instances, in_ports, end_text, owner_name, owner_ports, in_composition}
+use Rattle.plan_definitions.specs.Common.{of_connectors, of_items, of_root_ports, refusal}
 use Rattle.description_types.specs.declared.description.Connector.TheVariants as connector
-use Rattle.description_types.specs.declared.description.Description.{Description}
-use Rattle.description_types.specs.declared.description.InnerPort.{InnerPort}
-use Rattle.description_types.specs.declared.description.PrototypeType.{PrototypeType}
 use Rattle.description_types.specs.declared.description.PrototypeType.TheVariants as of_type
 use Rattle.component_model.specs.Programs.{component_tree}
-use Rattle.description_types.specs.declared.flat.End.{End}
-use Rattle.description_types.specs.declared.flat.Flat.{Flat}
 use Rattle.plan_definitions.specs.declared.join_rule.JoinRule.{JoinRule}
 use Rattle.plan_definitions.specs.declared.join_rule.JoinRule.TheVariants.{Services, Groups}
-use Rattle.plan_definitions.specs.Connectors.{both, delegated, incompatible, inner_interface, joins_compatible, ports_of, sides}
-use Rattle.plan_definitions.specs.Firsts.{first_of}
-use Rattle.plan_definitions.specs.Interfaces.{are_compatible}
-use Rattle.plan_definitions.specs.JoinedItems.{first_broken, in_instances, in_ports}
-use Rattle.plan_definitions.specs.Names.{end_text, item_text, owner_name, owner_ports}
-use Rattle.plan_definitions.specs.JoinRefusals.{in_composition, number_of, of_connectors, of_items, of_root_ports, refusal}
+use Rattle.plan_definitions.specs.Connectors.{ports_of}
+use Rattle.plan_definitions.specs.Names.{item_text}
+use Rattle.plan_definitions.specs.JoinRefusals.{number_of}
 use Rattle.description_stages.proofs.Held.{at_place, held_as, look}
 
 module _ (d : Description) (cs : List Component) (same : map component_tree d.components ≡ map component_tree cs) where

@@ -1,9 +1,6 @@
 -- What a part of a description keeps: each of its values passes the rules.
 use Rattle.std.proofs.Common.{◌≡◌, ℕ, zero, suc, ◌+◌, List, [], ◌∷◌, ◌++◌, Bool, true, false, not, ◌&&◌, Some, refl, sym, subst, arith, ◌∙◌}
-use Rattle.std.specs.List.{list_all, slice_get}
-use Rattle.std.proofs.lemmas.Bool.{and_parts, not-true}
-use Rattle.std.proofs.lemmas.List.Folds.{list_all-append}
-use Rattle.std.proofs.lemmas.Option.{none-some, same_Some}
+use Rattle.bus_semantics.specs.Common.{list_all, slice_get, and_parts, not-true, list_all-append, none-some, same_Some}
 use Rattle.serde_json.specs.Data.{Data, null, boolean, number, string, array, object, Items, no_items, item, Members}
 use Rattle.serde_json.specs.Find.{get_item, get_member}
 use Rattle.declared_names.specs.declared.catalogs.Catalog.{Catalog}

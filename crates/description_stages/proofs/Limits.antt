@@ -1,20 +1,10 @@
 -- A description made flat keeps the limits of rule 10.
 use Rattle.std.proofs.Common.{◌≡◌, ℕ, ◌≤◌, List, [], ◌∷◌, length, Option, Some, None, Ordering, Less, Equal, inl, inr, nat_lt, Bool, true, false, refl, sym, ap, subst, ◌∙◌, arith}
-use Rattle.std.proofs.lemmas.Bool.{ltb-false, ltb-true}
-use Rattle.std.proofs.lemmas.List.{length-map}
+use Rattle.bus_semantics.specs.Common.{ltb-false, ltb-true, length-map, AllByRecursion}
 use Rattle.std.specs.Cmp.{nat_cmp_is}
-use Rattle.std.specs.List.{AllByRecursion}
 use Rattle.std.specs.List.Sorted.{IsStrictlySortedBy}
 use Rattle.std.specs.Ordering.{nat_cmp, ordering_then}
-use Rattle.description_types.specs.declared.description.Description.{Description}
-use Rattle.description_types.specs.declared.flat.End.{End}
-use Rattle.description_types.specs.declared.flat.Flat.{Flat}
-use Rattle.description_types.specs.declared.flat.Join.{Join}
-use Rattle.description_types.specs.Flattening.{IsFlatOf}
-use Rattle.description_types.specs.Instances.{instance_at}
-use Rattle.description_types.specs.Members.{AllApart, Among}
-use Rattle.description_types.specs.Orders.{end_order, instance_order, join_order}
-use Rattle.description_types.specs.Places.{places}
+use Rattle.plan_definitions.specs.Common.{Description, End, Flat, Join, IsFlatOf, instance_at, AllApart, Among, end_order, instance_order, join_order, places}
 
 pub few_instances : (d : Description) (f : Flat) → IsFlatOf d f → length f.instances ≤ 1024
 few_instances d f flat = let same : length f.instances ≡ length (places d) = ap length flat.instances_listed ∙ length-map (places d) (instance_at d) in omega (arith, same, flat.limits.instances)

@@ -1,30 +1,17 @@
 -- The mapping and its rules, where programs are held elsewhere.
-use Rattle.std.proofs.Common.{◌≡◌, ℕ, zero, suc, ◌+◌, List, [], ◌∷◌, ◌++◌, map, filter, length, codes, nat_eq, bytes_eq, slice_get, true, false, not, ◌&&◌, ◌||◌, is_some, if◌then◌else◌, Option, Some, None, option_map, option_and_then, refl, sym, ap, subst, ◌∙◌}
-use Rattle.std.specs.List.{flat_map, list_any, position_from}
-use Rattle.std.specs.Option.{option_map_or, option_or}
-use Rattle.runnable_lang.specs.declared.program.AccessKind.{AccessKind}
+use Rattle.std.proofs.Common.{◌≡◌, ℕ, zero, suc, ◌+◌, List, [], ◌∷◌, ◌++◌, map, filter, length, codes, nat_eq, bytes_eq, slice_get, true, false, not, ◌&&◌, ◌||◌, is_some, if◌then◌else◌}
+use Rattle.std.proofs.Common.{Option, Some, None, option_map, option_and_then, refl, sym, ap, subst, ◌∙◌}
+use Rattle.bus_semantics.specs.Common.{flat_map, list_any, position_from, option_map_or, option_or, AccessKind}
 use Rattle.runnable_lang.specs.declared.program.AccessKind.TheVariants as kind
-use Rattle.description_types.specs.declared.component.Access.{Access}
-use Rattle.description_types.specs.declared.component.Component.{Component}
-use Rattle.description_types.specs.declared.component.Event.{Event}
-use Rattle.description_types.specs.declared.component.EventKind.{EventKind}
-use Rattle.description_types.specs.declared.component.EventKind.TheVariants.{OperationInvoked}
-use Rattle.description_types.specs.declared.component.Runnable.{Runnable}
-use Rattle.description_types.specs.declared.description.Description.{Description}
-use Rattle.description_types.specs.declared.description.MappedEvent.{MappedEvent}
+use Rattle.plan_definitions.specs.Common.{Access, Component, Event, EventKind, OperationInvoked, Runnable, Description, MappedEvent, first_of, unless, End, Flat, end_at, provider_of}
+use Rattle.plan_definitions.specs.Common.{pair_number, same_pair, from, component_of, instance_named, invocation_of, invokes, is_mapped, mapped_as, named_by, names, event_text, mapped_text}
+use Rattle.plan_definitions.specs.Common.{of_events, runnable_text, IsAfter, IsOfTasks, are_same, badly_mapped_in, is_mapped_well, keeps_direct, may_be_direct, not_direct_in, serves_outside}
+use Rattle.plan_definitions.specs.Common.{spread_in, task_of_server, tasks_behind, tasks_from, tasks_of, tasks_of_event, unnamed, waits_by, waits_for, Chain, ReachesItself, Waits}
+use Rattle.plan_definitions.specs.Common.{by_position, mapping_of, number_of}
 use Rattle.description_types.specs.declared.description.Task as declared_task
 use Rattle.component_model.specs.Programs.{component_tree, runnable_tree}
-use Rattle.plan_definitions.specs.Firsts.{first_of, unless}
-use Rattle.description_types.specs.declared.flat.End.{End}
-use Rattle.description_types.specs.declared.flat.Flat.{Flat}
-use Rattle.plan_definitions.specs.Joined.{end_at, provider_of}
-use Rattle.plan_definitions.specs.Keys.{pair_number, same_pair}
-use Rattle.plan_definitions.specs.Lists.{from}
-use Rattle.plan_definitions.specs.Parts.{component_of}
-use Rattle.plan_definitions.specs.Mapped.{instance_named, invocation_of, invokes, is_mapped, mapped_as, named_by, names}
-use Rattle.plan_definitions.specs.MappingRefusals.{event_text, mapped_text, of_events, path_of, runnable_text, IsAfter, IsOfTasks, IsRefusal}
-use Rattle.plan_definitions.specs.MappingRules.{are_same, badly_mapped_in, in_instances, is_mapped_well, keeps_direct, may_be_direct, not_direct_in, serves_outside, spread_in, task_of_server, tasks_behind, tasks_from, tasks_of, tasks_of_event, unnamed, waits_by, waits_for, Chain, ReachesItself, Waits}
-use Rattle.plan_definitions.specs.Tasks.{by_position, mapping_of, number_of}
+use Rattle.plan_definitions.specs.MappingRefusals.{path_of, IsRefusal}
+use Rattle.plan_definitions.specs.MappingRules.{in_instances}
 use Rattle.description_stages.proofs.Held.{at_place, held_as, look, look_on, look_within, on_first, running}
 use Rattle.description_stages.proofs.Parts.{component_of-again, events_of-again, found}
 

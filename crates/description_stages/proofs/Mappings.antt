@@ -1,9 +1,6 @@
 -- What the mapping of a description keeps.
 use Rattle.std.proofs.Common.{◌≡◌, ℕ, ◌≤◌, ◌<◌, ◌^◌, map, length, Bool, true, ◌&&◌, leb, ltb, codes, Option, Some, None, refl, sym, ap, subst, arith, ◌∙◌}
-use Rattle.std.specs.List.{list_all}
-use Rattle.std.specs.Option.{option_and_then, unwrap_or}
-use Rattle.std.proofs.lemmas.Bool.{and_parts, and_from, false≢true, leb-true, ltb-true}
-use Rattle.std.proofs.lemmas.List.{length-map}
+use Rattle.bus_semantics.specs.Common.{list_all, option_and_then, unwrap_or, and_parts, and_from, false≢true, leb-true, ltb-true, length-map, is_in}
 use mathlib.Core.List.{map-map}
 use Rattle.serde_json.specs.Data.{Data, null, array, Items}
 use Rattle.serde_json.specs.Events.{items_len}
@@ -15,14 +12,10 @@ use Rattle.declared_names.specs.Catalogs.{catalog_of}
 use Rattle.description_places.specs.Keys.{needed, optional}
 use Rattle.description_places.specs.Shape.{holds, is_within}
 use Rattle.description_places.specs.Spots.{Spot, top, inside, inside_part}
-use Rattle.description_types.specs.declared.description.MappedEvent.{MappedEvent}
-use Rattle.description_types.specs.declared.description.Task.{Task}
-use Rattle.description_types.specs.declared.description.TaskMapping.{TaskMapping}
+use Rattle.plan_definitions.specs.Common.{MappedEvent, Task, TaskMapping, names_fit}
 use Rattle.declared_names.specs.Names.{has_name, position_in, short_names}
 use Rattle.declared_names.specs.Values.{below as under, items_at, listed, number_at, text_at, text_in}
 use Rattle.component_model.specs.Compositions.{mapped_event_reading, mapping_reading, task_reading}
-use Rattle.bus_semantics.specs.SoundPlan.{is_in}
-use Rattle.plan_definitions.specs.WellFormed.{names_fit}
 use Rattle.description_stages.proofs.Kept.{Kept, kept_part, shape_here, found_here}
 use Rattle.description_stages.proofs.Naming.{all_listed, Objects, on_list, short_names_fit}
 use Rattle.description_stages.proofs.Positions.{items_there, low}

@@ -1,9 +1,8 @@
 -- The names of a list are names, and distinct.
-use Rattle.std.proofs.Common.{◌≡◌, ℕ, suc, ◌+◌, ◌≤◌, List, [], ◌∷◌, map, length, Bool, true, false, not, ◌&&◌, ◌||◌, leb, ltb, eqb, cond, bytes_eq, codes, Some, None, is_some, refl, sym, ap, subst, arith, ◌∙◌, ◌⊎◌, inl, inr}
-use Rattle.std.specs.List.{list_all, list_any, slice_get}
-use Rattle.std.specs.Option.{option_and_then}
-use Rattle.std.proofs.lemmas.Bool.{and_parts, and_from, or_cases, or_from, or_left, or_right, false≢true, true≢false, false_from_ne_true, leb-true, le-leb, lt-ltb, ltb-true}
-use Rattle.std.proofs.lemmas.Slice.Eq.{bytes_eq-Decides}
+use Rattle.std.proofs.Common.{◌≡◌, ℕ, suc, ◌+◌, ◌≤◌, List, [], ◌∷◌, map, length, Bool, true, false, not, ◌&&◌, ◌||◌, leb, ltb, eqb, cond, bytes_eq, codes, Some, None, is_some, refl, sym, ap}
+use Rattle.std.proofs.Common.{subst, arith, ◌∙◌, ◌⊎◌, inl, inr}
+use Rattle.bus_semantics.specs.Common.{list_all, list_any, slice_get, option_and_then, and_parts, and_from, or_cases, or_from, or_left, or_right, false≢true, true≢false, false_from_ne_true}
+use Rattle.bus_semantics.specs.Common.{leb-true, le-leb, lt-ltb, ltb-true, bytes_eq-Decides, is_in, same_numbers}
 use Rattle.serde_json.specs.Data.{Data, array, Items, no_items, item}
 use Rattle.serde_json.specs.Find.{as_array, get, get_item}
 use Rattle.declared_names.specs.declared.catalogs.Catalog.{Catalog}
@@ -20,7 +19,6 @@ use Rattle.description_places.specs.Shape.{has_shape}
 use Rattle.description_places.specs.Spots.{Spot, inside, inside_part}
 use Rattle.description_places.specs.Visits.{part_of}
 use Rattle.bus_semantics.specs.SoundNames as bus
-use Rattle.bus_semantics.specs.SoundPlan.{is_in, same_numbers}
 use Rattle.plan_definitions.specs.WellFormed.{distinct, names_fit}
 use Rattle.plan_definitions.proofs.Lists.{same_numbers_is}
 use Rattle.description_stages.proofs.Kept.{Kept, kept_part, shape_here}

@@ -1,21 +1,13 @@
 -- What a plan numbers, and what ports say, where programs are held elsewhere.
 use Rattle.std.proofs.Common.{◌≡◌, ℕ, List, [], ◌++◌, map, filter, length, codes, nat_eq, slice_get, Bool, Option, Some, None, option_map, option_and_then, refl, ap}
-use Rattle.std.specs.List.{find}
-use Rattle.std.specs.Option.{option_map_or}
-use Rattle.description_types.specs.declared.component.Component.{Component}
-use Rattle.description_types.specs.declared.description.Description.{Description}
+use Rattle.bus_semantics.specs.Common.{find, option_map_or}
+use Rattle.plan_definitions.specs.Common.{Component, Description, Flat, Instance, end_at, provider_of, Key, end_key, is_element, is_machine, is_mode_port, is_server, keys_of, number_in}
+use Rattle.plan_definitions.specs.Common.{of_kind, from, areas_of, component_of, events_of, numbered, of_instances, runnables_of, root_ports, sites, sites_of_component, sites_of_ports}
+use Rattle.plan_definitions.specs.Common.{com_spec_of, interface_of, item_name, item_text, port_of, ports_of, queue_length_of, site_name, variable_name, element_number, has_machine}
+use Rattle.plan_definitions.specs.Common.{machine_for, machine_number, mode_port_number, mode_ports_of, server_number}
 use Rattle.component_model.specs.Programs.{component_tree, runnable_tree}
-use Rattle.description_types.specs.declared.flat.Flat.{Flat}
-use Rattle.description_types.specs.declared.flat.Instance.{Instance}
 use Rattle.plan_definitions.specs.declared.site.Site.{Site}
 use Rattle.plan_definitions.specs.declared.site.SiteKind.{SiteKind}
-use Rattle.plan_definitions.specs.Joined.{end_at, provider_of}
-use Rattle.plan_definitions.specs.Keys.{Key, end_key, is_element, is_machine, is_mode_port, is_server, keys_of, number_in, of_kind}
-use Rattle.plan_definitions.specs.Lists.{from}
-use Rattle.plan_definitions.specs.Parts.{areas_of, component_of, events_of, numbered, of_instances, runnables_of}
-use Rattle.plan_definitions.specs.Sites.{root_ports, sites, sites_of_component, sites_of_ports}
-use Rattle.plan_definitions.specs.Ports.{com_spec_of, interface_of, item_name, item_text, port_of, ports_of, queue_length_of, site_name, variable_name}
-use Rattle.plan_definitions.specs.Things.{element_number, has_machine, machine_for, machine_number, mode_port_number, mode_ports_of, server_number}
 use Rattle.description_stages.proofs.Held.{as_many, at_place, bare, held_as, look, look_on}
 
 module _ (d : Description) (cs : List Component) (same : map component_tree d.components ≡ map component_tree cs) where

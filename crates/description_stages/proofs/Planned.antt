@@ -1,50 +1,34 @@
 -- The plan, where programs are held elsewhere.
-use Rattle.std.proofs.Common.{◌≡◌, ℕ, ◌==◌, List, [], ◌∷◌, ◌++◌, map, length, get_or, slice_get, Bool, false, not, ◌&&◌, ◌||◌, is_some, if◌then◌else◌, Option, Some, None, option_map, option_and_then, refl, ap}
-use Rattle.std.specs.List.{flat_map, list_any}
-use Rattle.std.specs.Option.{option_map_or, unwrap_or}
-use Rattle.runnable_lang.specs.declared.program.AccessKind.{AccessKind}
+use Rattle.std.proofs.Common.{◌≡◌, ℕ, ◌==◌, List, [], ◌∷◌, ◌++◌, map, length, get_or, slice_get, Bool, false, not, ◌&&◌, ◌||◌, is_some, if◌then◌else◌, Option, Some, None, option_map}
+use Rattle.std.proofs.Common.{option_and_then, refl, ap}
+use Rattle.bus_semantics.specs.Common.{flat_map, list_any, option_map_or, unwrap_or, AccessKind, leaders_by}
 use Rattle.runnable_lang.specs.declared.program.AccessKind.TheVariants as kind
-use Rattle.description_types.specs.declared.interface.Direction.{Direction}
-use Rattle.description_types.specs.declared.interface.Direction.TheVariants.{In, Out}
-use Rattle.description_types.specs.declared.interface.InterfaceKind.{InterfaceKind}
-use Rattle.description_types.specs.declared.interface.InterfaceKind.TheVariants.{SenderReceiver, ClientServer, ModeSwitch}
-use Rattle.description_types.specs.declared.component.Access.{Access}
-use Rattle.description_types.specs.declared.component.Component.{Component}
-use Rattle.description_types.specs.declared.component.Event.{Event}
+use Rattle.plan_definitions.specs.Common.{Direction, In, Out, InterfaceKind, SenderReceiver, ClientServer, ModeSwitch, Access, Component, Event, ItemPair, Port, Description, Flat, Instance}
+use Rattle.plan_definitions.specs.Common.{arguments_of, end_at, end_of, is_joined, provider_of, end_key, is_element, is_machine, is_server, keys_of, pair_number, from, component_of}
+use Rattle.plan_definitions.specs.Common.{root_ports, declared_at, element_in, element_of, elements, given_of, group_of, held, is_provided, keeps_last, keeps_queue, kind_of, leaders}
+use Rattle.plan_definitions.specs.Common.{limits_of, never_received_of, policy_kind, queue_of, type_of, variable_at, words_of, zeros, all_members, group_number, groups, leader_of}
+use Rattle.plan_definitions.specs.Common.{calling_of, callings, callings_in, callings_of_component, first_calling, is_calling, leaves, outer_callings, owner_of, point_number, group_at}
+use Rattle.plan_definitions.specs.Common.{group_in, machine_at, machines, mode_port_at, mode_ports, refuses_asynchronous, is_user, waits_of, argument_of, operation_at, operation_in}
+use Rattle.plan_definitions.specs.Common.{point_of, point_words, points, server_at, server_of, servers, started_by, disabling_of, event_of, events, moment_of, runnable_of, runnables}
+use Rattle.plan_definitions.specs.Common.{served_by, target_of, bundle_leaders, groups_listed, list_numbers, list_of, lists, lists_at, reads, runnable_at, areas, areas_at, named_areas}
+use Rattle.plan_definitions.specs.Common.{object_count, plan_of}
 use Rattle.description_types.specs.declared.component.EventKind as declared_kind
 use Rattle.description_types.specs.declared.component.EventKind.TheVariants as event
-use Rattle.description_types.specs.declared.component.ItemPair.{ItemPair}
-use Rattle.description_types.specs.declared.component.Port.{Port}
 use Rattle.description_types.specs.declared.component.Runnable as declared_runnable
-use Rattle.description_types.specs.declared.description.Description.{Description}
 use Rattle.component_model.specs.Programs.{component_tree, runnable_tree}
-use Rattle.description_types.specs.declared.flat.Flat.{Flat}
-use Rattle.description_types.specs.declared.flat.Instance.{Instance}
 use Rattle.bus_semantics.specs.declared.plan.ElemKind.TheVariants as elem
 use Rattle.bus_semantics.specs.declared.plan.EventKind.TheVariants as plan_event
-use Rattle.bus_semantics.specs.Bundles.{leaders_by}
-use Rattle.plan_definitions.specs.Signatures.{arguments_of}
 use Rattle.plan_definitions.specs.declared.site.Site.{Site}
-use Rattle.plan_definitions.specs.Joined.{end_at, end_of, is_joined, provider_of}
-use Rattle.plan_definitions.specs.Keys.{end_key, is_element, is_machine, is_server, keys_of, pair_number}
-use Rattle.plan_definitions.specs.Lists.{from}
-use Rattle.plan_definitions.specs.Parts.{component_of}
-use Rattle.plan_definitions.specs.Sites.{root_ports}
-use Rattle.plan_definitions.specs.Elements.{declared_at, element_in, element_of, elements, given_of, group_of, held, is_provided, keeps_last, keeps_queue, kind_of, leaders, limits_of, never_received_of, policy_kind, queue_of, type_of, variable_at, words_of, zeros}
-use Rattle.plan_definitions.specs.ElementGroups.{all_members, group_number, groups, leader_of}
 use Rattle.plan_definitions.specs.declared.calling.Calling.{Calling}
-use Rattle.plan_definitions.specs.Callings.{calling_of, callings, callings_in, callings_of_component, first_calling, is_calling, leaves, outer_callings, owner_of, point_number}
-use Rattle.plan_definitions.specs.Modes.{group_at, group_in, machine_at, machines, mode_port_at, mode_ports, refuses_asynchronous, is_user, waits_of}
 use Rattle.plan_definitions.specs.Services as services
-use Rattle.plan_definitions.specs.Services.{argument_of, operation_at, operation_in, point_of, point_words, points, server_at, server_of, servers, started_by}
-use Rattle.plan_definitions.specs.Started.{disabling_of, event_of, events, moment_of, runnable_of, runnables, served_by, target_of}
 use Rattle.plan_definitions.specs.Started as started
-use Rattle.plan_definitions.specs.Listed.{bundle_leaders, groups_listed, is_required, list_numbers, list_of, lists, lists_at, reads, runnable_at}
-use Rattle.plan_definitions.specs.Planned.{areas, areas_at, named_areas, object_count, plan_of}
+use Rattle.plan_definitions.specs.Listed.{is_required}
 use Rattle.description_stages.proofs.ComponentPlans.{signature-again}
 use Rattle.description_stages.proofs.Held.{held_as, look, look_on, on_from}
 use Rattle.description_stages.proofs.Mapped.{at_events, at_runnable, invocation_of-again, is_mapped-again}
-use Rattle.description_stages.proofs.Parts.{areas_of-again, com_spec_of-again, component_of-again, element_number-again, events_of-again, found, interface_of-again, item_text-again, machine_for-again, machine_number-again, mode_port_number-again, mode_ports_of-again, of_instances-again, of_kind-again, ports_of-again, queue_length_of-again, runnables_of-again, server_number-again, site_name-again}
+use Rattle.description_stages.proofs.Parts.{areas_of-again, com_spec_of-again, component_of-again, element_number-again, events_of-again, found, interface_of-again, item_text-again}
+use Rattle.description_stages.proofs.Parts.{machine_for-again, machine_number-again, mode_port_number-again, mode_ports_of-again, of_instances-again, of_kind-again, ports_of-again}
+use Rattle.description_stages.proofs.Parts.{queue_length_of-again, runnables_of-again, server_number-again, site_name-again}
 
 module _ (d : Description) (cs : List Component) (same : map component_tree d.components ≡ map component_tree cs) (f : Flat) where
   -- ---- elements

@@ -1,9 +1,6 @@
 -- What a component declares, as the lists have it, and its ports and their items by the positions that the reading has.
 use Rattle.std.proofs.Common.{◌≡◌, ℕ, List, [], map, length, Bool, true, ltb, codes, Option, Some, None, refl, sym, ap, subst, ◌∙◌, ◌⊎◌, inl, inr}
-use Rattle.std.specs.List.{slice_get, slice_index_or}
-use Rattle.std.specs.Option.{option_map, option_map_or, unwrap_or}
-use Rattle.std.proofs.lemmas.Bool.{false≢true}
-use Rattle.std.proofs.lemmas.Option.{get_or_from_slice_get, none-some, same_Some, slice_get-map}
+use Rattle.bus_semantics.specs.Common.{slice_get, slice_index_or, option_map, option_map_or, unwrap_or, false≢true, get_or_from_slice_get, none-some, same_Some, slice_get-map}
 use Rattle.serde_json.specs.Data.{Data, null, array, Items}
 use Rattle.serde_json.specs.Find.{get, get_item}
 use Rattle.declared_names.specs.declared.catalogs.ComponentLists.{ComponentLists}
@@ -23,11 +20,9 @@ use Rattle.description_places.specs.Owners.{component_of}
 use Rattle.description_places.specs.References.{type_has}
 use Rattle.description_places.specs.Shape.{holds}
 use Rattle.description_places.specs.Spots.{Spot, Level, top, inside, inside_part}
-use Rattle.description_types.specs.declared.interface.TypeTable.{TypeTable}
-use Rattle.description_types.specs.declared.component.Port.{Port}
+use Rattle.plan_definitions.specs.Common.{TypeTable, Port, items_at as item_number, items_of_port}
 use Rattle.component_model.specs.Ports.{port_reading}
 use Rattle.component_model.specs.Types.{types_reading}
-use Rattle.plan_definitions.specs.WellFormed.{items_at as item_number, items_of_port}
 use Rattle.description_stages.proofs.Kept.{Kept, kept_part}
 use Rattle.description_stages.proofs.Naming.{ByPlace}
 use Rattle.description_stages.proofs.Ports.{item_below, port_interface}

@@ -1,10 +1,6 @@
 -- What the ports of components and compositions keep.
 use Rattle.std.proofs.Common.{◌≡◌, ℕ, ◌^◌, List, [], ◌∷◌, map, length, Bool, true, false, ltb, cond, bytes_eq, codes, Option, Some, None, refl, sym, ap, subst, arith, ◌∙◌, ◌⊎◌, inl, inr}
-use Rattle.std.specs.List.{list_all, slice_get}
-use Rattle.std.specs.Option.{option_and_then, option_map, option_map_or}
-use Rattle.std.proofs.lemmas.Bool.{and_from, false≢true}
-use Rattle.std.proofs.lemmas.Option.{slice_get-map}
-use Rattle.std.proofs.lemmas.List.{length-map}
+use Rattle.bus_semantics.specs.Common.{list_all, slice_get, option_and_then, option_map, option_map_or, and_from, false≢true, slice_get-map, length-map, is_in}
 use mathlib.Core.List.{map-map}
 use Rattle.serde_json.specs.Data.{Data, array, Items}
 use Rattle.serde_json.specs.Find.{as_number, as_u64, get}
@@ -18,21 +14,16 @@ use Rattle.description_places.specs.Forms.{form_of}
 use Rattle.description_places.specs.Keys.{keys_of, needed, optional}
 use Rattle.description_places.specs.Shape.{holds, is_within}
 use Rattle.description_places.specs.Spots.{Spot, top, inside, inside_part}
-use Rattle.description_types.specs.declared.interface.Interface.{Interface}
-use Rattle.description_types.specs.declared.interface.InterfaceKind.TheVariants.{SenderReceiver, ClientServer, ModeSwitch}
-use Rattle.description_types.specs.declared.interface.TypeTable.{TypeTable}
-use Rattle.description_types.specs.declared.component.Port.{Port}
+use Rattle.plan_definitions.specs.Common.{Interface, SenderReceiver, ClientServer, ModeSwitch, TypeTable, Port, keeps_element, com_spec_fits, item_count, items_at as item_number, names_fit}
+use Rattle.plan_definitions.specs.Common.{port_fits, ports_fit}
 use Rattle.declared_names.specs.declared.scopes.InterfaceNames.{InterfaceNames}
 use Rattle.declared_names.specs.declared.scopes.TypeNames.{TypeNames}
 use Rattle.declared_names.specs.Components.{interface_of_port}
 use Rattle.declared_names.specs.Names.{has_among, has_at, has_name, position_among, position_at, position_in, short_names}
 use Rattle.declared_names.specs.Scopes.{interface_names, item_names, type_names}
 use Rattle.declared_names.specs.Values.{below as under, items_at, listed, number_at, text_at, text_at_in}
-use Rattle.description_types.specs.Initials.{keeps_element}
 use Rattle.component_model.specs.Ports.{com_spec_reading, port_reading}
 use Rattle.component_model.specs.Types.{data_element_reading, interface_reading, mode_element_reading, operation_reading, types_reading}
-use Rattle.bus_semantics.specs.SoundPlan.{is_in}
-use Rattle.plan_definitions.specs.WellFormed.{com_spec_fits, item_count, items_at as item_number, names_fit, port_fits, ports_fit}
 use Rattle.description_stages.proofs.Shapes.{is_object}
 use Rattle.description_stages.proofs.Kept.{Kept, kept_part, shape_here, found_here}
 use Rattle.description_stages.proofs.Naming.{all_listed, ByPlace, Objects, on_list, short_names_fit}

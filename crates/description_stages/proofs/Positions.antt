@@ -1,11 +1,6 @@
 -- Positions of names: below the length of the list that has the name, which stands there.
 use Rattle.std.proofs.Common.{◌≡◌, ℕ, zero, suc, ◌+◌, ◌<◌, List, [], ◌∷◌, map, length, Bool, true, false, cond, ltb, bytes_eq, Option, Some, None, refl, sym, ap, arith, ◌∙◌}
-use Rattle.std.specs.List.{slice_get, slice_index_or}
-use Rattle.std.specs.Option.{option_and_then, option_map}
-use Rattle.std.proofs.lemmas.Bool.{false≢true, lt-ltb, ltb-true}
-use Rattle.std.proofs.lemmas.Option.{slice_get-map}
-use Rattle.std.proofs.lemmas.Slice.Eq.{bytes_eq-Decides}
-use Rattle.std.proofs.lemmas.List.{length-map}
+use Rattle.bus_semantics.specs.Common.{slice_get, slice_index_or, option_and_then, option_map, false≢true, lt-ltb, ltb-true, slice_get-map, bytes_eq-Decides, length-map}
 use Rattle.serde_json.specs.Data.{Data, null, boolean, number, string, array, object, Items, no_items, item}
 use Rattle.serde_json.specs.Find.{as_array, get, get_item}
 use Rattle.declared_names.specs.FirstPlaces.{first_places}

@@ -1,19 +1,12 @@
 -- What is printed of a plan tells nothing of how programs are held.
 use Rattle.std.proofs.Common.{◌≡◌, List, [], ◌++◌, map, filter, codes, slice_get, is_none, refl, ap}
 use Rattle.std.specs.List.{concat}
-use Rattle.description_types.specs.declared.component.Component.{Component}
-use Rattle.description_types.specs.declared.description.Description.{Description}
+use Rattle.plan_definitions.specs.Common.{Component, Description, End, Flat, Instance, Join, from}
 use Rattle.component_model.specs.Programs.{component_tree}
-use Rattle.description_types.specs.declared.flat.End.{End}
-use Rattle.description_types.specs.declared.flat.Flat.{Flat}
-use Rattle.description_types.specs.declared.flat.Instance.{Instance}
-use Rattle.description_types.specs.declared.flat.Join.{Join}
 use Rattle.bus_semantics.specs.declared.plan.BusPlan.{BusPlan}
 use Rattle.bus_semantics.specs.declared.plan.EventKind.{EventKind}
 use Rattle.bus_semantics.specs.declared.plan.EventKind.TheVariants.{Timing, Init, DataReceived, Invoked, Returns, ModeSwitch, Ack}
-use Rattle.bus_semantics.specs.Plan.{instance_of, plan_of, queue_of}
-use Rattle.bus_semantics.specs.Spelling.{spaced}
-use Rattle.plan_definitions.specs.Lists.{from}
+use Rattle.bus_semantics.specs.Common.{instance_of, plan_of, queue_of, spaced}
 use Rattle.plan_text.specs.Lines.{direct_events, direct_line, end_text, instance_line, invokes_directly, join_line, machine_line, owned_text, plan_text, task_lines}
 use Rattle.description_stages.proofs.Held.{at_place, held_as, look}
 use Rattle.description_stages.proofs.Parts.{item_text-again}

@@ -1,14 +1,13 @@
 -- What programs keep: the variables that they name are among theirs, and counts are in range.
-use Rattle.std.proofs.Common.{◌≡◌, ℕ, zero, suc, ◌+◌, ◌<◌, ◌≤◌, ◌^◌, List, [], ◌∷◌, ◌++◌, map, length, Bool, true, false, ◌&&◌, ◌||◌, leb, ltb, cond, bytes_eq, codes, Option, Some, None, refl, sym, ap, subst, arith, ◌∙◌, ◌⊎◌, inl, inr}
-use Rattle.std.specs.List.{list_all, list_any, slice_get, slice_index_or}
-use Rattle.std.specs.Option.{option_and_then, unwrap_or}
-use Rattle.std.proofs.lemmas.Bool.{and_parts, and_from, false≢true, cond_both, leb-true, le-leb, lt-ltb, ltb-true, or_left, or_right}
-use Rattle.std.proofs.lemmas.List.Folds.{list_all-append, list_any-append}
-use Rattle.std.proofs.lemmas.Option.{none-some, same_Some}
-use Rattle.std.proofs.lemmas.Slice.Eq.{bytes_eq-Decides}
+use Rattle.std.proofs.Common.{◌≡◌, ℕ, zero, suc, ◌+◌, ◌<◌, ◌≤◌, ◌^◌, List, [], ◌∷◌, ◌++◌, map, length, Bool, true, false, ◌&&◌, ◌||◌, leb, ltb, cond, bytes_eq, codes, Option, Some, None}
+use Rattle.std.proofs.Common.{refl, sym, ap, subst, arith, ◌∙◌, ◌⊎◌, inl, inr}
+use Rattle.bus_semantics.specs.Common.{list_all, list_any, slice_get, slice_index_or, option_and_then, unwrap_or, and_parts, and_from, false≢true, leb-true, le-leb, lt-ltb, ltb-true}
+use Rattle.bus_semantics.specs.Common.{or_left, or_right, list_all-append, list_any-append, none-some, same_Some, bytes_eq-Decides, StmtTree, each_in, each_of, expr_sound, gives}
+use Rattle.bus_semantics.specs.Common.{is_in_range, is_well_formed, takes}
+use Rattle.std.proofs.lemmas.Bool.{cond_both}
 use Rattle.serde_json.specs.Data.{Data, null, boolean, number, string, array, object, Items, no_items, item}
 use Rattle.serde_json.specs.Find.{as_array, as_number, as_str, as_u64, get, get_item}
-use Rattle.runnable_lang.specs.Trees.{StmtTree, in_order}
+use Rattle.runnable_lang.specs.Trees.{in_order}
 use Rattle.description_places.specs.declared.form.Form.TheVariants as form
 use Rattle.description_places.specs.declared.kind.Kind.{Kind}
 use Rattle.description_places.specs.declared.kind.Kind.TheVariants as of_kind
@@ -31,7 +30,6 @@ use Rattle.program_reading.specs.Keywords.{keyword_of}
 use Rattle.program_reading.specs.Programs.{program_reading}
 use Rattle.program_reading.specs.Statements.{block, blocks, body_part, Context, expr_part, expr_seen, exprs_part, statement, times_part, var_part, vars_part}
 use Rattle.program_reading.specs.Variables.{added, all_added, among_parts, names_in, names_in_each, variables_of}
-use Rattle.bus_semantics.specs.SoundPrograms.{each_in, each_of, expr_sound, gives, is_in_range, is_well_formed, takes}
 use Rattle.description_stages.proofs.Shapes.{on_array}
 use Rattle.description_stages.proofs.Kept.{Kept, kept_part, shape_here}
 use Rattle.description_stages.proofs.Lists.{IsIn}

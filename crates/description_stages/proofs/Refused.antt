@@ -1,19 +1,12 @@
 -- A description made flat, with what the rules on it refuse, has one refusal or none.
 use Rattle.std.proofs.Common.{◌≡◌, ℕ, ◌<◌, List, map, length, Option, Some, None, inl, inr, refl, sym, ap, subst, ◌∙◌, ◌⊎◌, arith}
-use Rattle.description_types.specs.declared.component.Component.{Component}
-use Rattle.description_types.specs.declared.description.Description.{Description}
+use Rattle.plan_definitions.specs.Common.{Component, Description, IsBrokenConnector, IsFirstBroken, IsFirst, ContainsItself, Flat, IsFlatOf, IsRefusedAt, composition_place, connector_place}
+use Rattle.plan_definitions.specs.Common.{IsAfter, IsOfTasks, mapping_text, of_events, IsOfLists, IsOfSize, IsRefusal, IsThen, of_size}
 use Rattle.component_model.specs.Programs.{component_tree}
-use Rattle.description_types.specs.Connectors.{IsBrokenConnector, IsFirstBroken}
-use Rattle.description_types.specs.Firsts.{IsFirst}
-use Rattle.description_types.specs.Paths.{ContainsItself}
-use Rattle.description_types.specs.declared.flat.Flat.{Flat}
-use Rattle.description_types.specs.Flattening.{IsFlatOf, IsRefusedAt, composition_place, connector_place}
 use Rattle.plan_definitions.specs.JoinRefusals as joins
 use Rattle.plan_definitions.specs.declared.component_rule.ComponentRule.TheVariants as rule
 use Rattle.plan_definitions.specs.ComponentRefusals as components
-use Rattle.plan_definitions.specs.MappingRefusals.{IsAfter, IsOfTasks, mapping_text, of_events}
 use Rattle.plan_definitions.specs.MappingRefusals as mapping
-use Rattle.plan_definitions.specs.PlanRefusals.{IsOfLists, IsOfSize, IsRefusal, IsThen, of_size}
 use Rattle.description_stages.proofs.ComponentPlans as again
 use Rattle.description_stages.proofs.Flat.{flat_as, refused_as}
 use Rattle.description_stages.proofs.Held.{held_as}

@@ -1,11 +1,8 @@
 -- The programs of servers have a variable for each argument and one for `error`.
 use Rattle.std.proofs.Common.{◌≡◌, ℕ, ◌<◌, List, [], ◌∷◌, ◌++◌, map, length, Bool, true, false, not, ◌&&◌, ltb, bytes_eq, codes, Option, Some, None, refl, sym, ap, subst, ◌∙◌, ◌⊎◌, inl, inr}
-use Rattle.std.specs.List.{filter, list_all, list_any, slice_get, slice_index_or}
-use Rattle.std.specs.Option.{option_and_then, option_map, option_map_or, unwrap_or}
-use Rattle.std.proofs.lemmas.Bool.{and_parts, false≢true, lt-ltb, or_from}
-use Rattle.std.proofs.lemmas.Option.{get_or_from_slice_get, none-some, same_Some, slice_get-map}
-use Rattle.std.proofs.lemmas.Slice.Eq.{bytes_eq-Decides}
-use Rattle.std.proofs.lemmas.List.{length-map}
+use Rattle.bus_semantics.specs.Common.{list_all, list_any, slice_get, slice_index_or, option_and_then, option_map, option_map_or, unwrap_or, and_parts, false≢true, lt-ltb, or_from}
+use Rattle.bus_semantics.specs.Common.{get_or_from_slice_get, none-some, same_Some, slice_get-map, bytes_eq-Decides, length-map}
+use Rattle.std.specs.List.{filter}
 use Rattle.serde_json.specs.Data.{Data, null, array, Items}
 use Rattle.serde_json.specs.Find.{as_array, get, get_item}
 use Rattle.description_places.specs.declared.kind.Kind.TheVariants as of_kind
@@ -17,12 +14,8 @@ use Rattle.declared_names.specs.Catalogs.{catalog_of, firsts_in, operation_first
 use Rattle.declared_names.specs.FirstPlaces.{first_places}
 use Rattle.description_places.specs.Keys.{needed, optional}
 use Rattle.description_places.specs.Spots.{Spot, top, inside, inside_part}
-use Rattle.description_types.specs.declared.base_type.DataType.{DataType}
-use Rattle.description_types.specs.declared.interface.Interface.{Interface}
-use Rattle.description_types.specs.declared.interface.Operation.{Operation}
-use Rattle.description_types.specs.declared.interface.TypeTable.{TypeTable}
-use Rattle.description_types.specs.Refusals.{has_distinct_codes, is_sound, is_sound_argument, one_word, operations_in}
-use Rattle.description_types.specs.declared.component.Port.{Port}
+use Rattle.plan_definitions.specs.Common.{DataType, Interface, Operation, TypeTable, has_distinct_codes, is_sound, is_sound_argument, one_word, operations_in, Port, argument_count}
+use Rattle.plan_definitions.specs.Common.{arguments_at, distinct, names_fit}
 use Rattle.declared_names.specs.declared.in_component.ComponentNames.{ComponentNames}
 use Rattle.declared_names.specs.declared.scopes.InterfaceNames.{InterfaceNames}
 use Rattle.declared_names.specs.declared.scopes.TypeNames.{TypeNames}
@@ -35,7 +28,6 @@ use Rattle.component_model.specs.Components.{event_kind_reading, event_reading, 
 use Rattle.component_model.specs.Ports.{port_reading}
 use Rattle.component_model.specs.Programs.{arguments_among, arguments_of, first_names, invoked_events, is_invoked, runnable_names, runnable_reading, runnables_in, RunnableTree}
 use Rattle.component_model.specs.Types.{argument_reading, interface_kind_reading, interface_reading, operation_reading, types_reading}
-use Rattle.plan_definitions.specs.WellFormed.{argument_count, arguments_at, distinct, names_fit}
 use Rattle.description_stages.proofs.Events.{port_here, runnable_here}
 use Rattle.description_stages.proofs.Kept.{Kept, kept_part, shape_here}
 use Rattle.description_stages.proofs.Naming.{Objects, on_list, short_names_fit}

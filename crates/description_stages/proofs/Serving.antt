@@ -1,21 +1,17 @@
 -- Lists of names that grow, and the first event of each server.
-use Rattle.std.proofs.Common.{◌≡◌, ℕ, suc, ◌+◌, ◌<◌, ◌≤◌, List, [], ◌∷◌, ◌++◌, map, length, Bool, true, false, not, ◌&&◌, ◌||◌, eqb, cond, bytes_eq, codes, Some, refl, sym, ap, subst, append_assoc, arith, ◌∙◌, ◌⊎◌, inl, inr}
-use Rattle.std.specs.List.{filter, list_any, slice_get}
-use Rattle.std.proofs.lemmas.Bool.{and_parts, and_from, cond-false, cond_both, eq-eqb, false≢true, true≢false, or_cases, or_from, or_left, or_parts, or_right, cases_Bool, false_from_ne_true, not-true}
-use Rattle.std.proofs.lemmas.List.Folds.{list_any-append}
-use Rattle.std.proofs.lemmas.Slice.Eq.{bytes_eq-Decides}
-use Rattle.std.proofs.lemmas.List.{length-append}
+use Rattle.std.proofs.Common.{◌≡◌, ℕ, suc, ◌+◌, ◌<◌, ◌≤◌, List, [], ◌∷◌, ◌++◌, map, length, Bool, true, false, not, ◌&&◌, ◌||◌, eqb, cond, bytes_eq, codes, Some, refl, sym, ap, subst}
+use Rattle.std.proofs.Common.{append_assoc, arith, ◌∙◌, ◌⊎◌, inl, inr}
+use Rattle.bus_semantics.specs.Common.{list_any, slice_get, and_parts, and_from, eq-eqb, false≢true, true≢false, or_cases, or_from, or_left, or_parts, or_right, false_from_ne_true, not-true}
+use Rattle.bus_semantics.specs.Common.{list_any-append, bytes_eq-Decides, length-append, same_numbers}
+use Rattle.std.specs.List.{filter}
+use Rattle.std.proofs.lemmas.Bool.{cond-false, cond_both, cases_Bool}
 use Rattle.serde_json.specs.Data.{Data, Items, no_items, item}
 use Rattle.serde_json.specs.Find.{get_item}
-use Rattle.description_types.specs.declared.component.Event.{Event}
-use Rattle.description_types.specs.declared.component.EventKind.{EventKind}
-use Rattle.description_types.specs.declared.component.EventKind.TheVariants.{OperationInvoked}
+use Rattle.plan_definitions.specs.Common.{Event, EventKind, OperationInvoked, distinct}
 use Rattle.declared_names.specs.Names.{Names, position_in}
 use Rattle.declared_names.specs.Values.{listed, text_at}
 use Rattle.program_reading.specs.Variables.{added, all_added}
 use Rattle.component_model.specs.Programs.{is_invoked, runnable_names}
-use Rattle.bus_semantics.specs.SoundPlan.{same_numbers}
-use Rattle.plan_definitions.specs.WellFormed.{distinct}
 use Rattle.description_stages.proofs.Programs.{has}
 
 -- ---- names that are added

@@ -1,17 +1,13 @@
 -- The plan counts what is listed.
-use Rattle.std.proofs.Common.{◌≡◌, ℕ, zero, suc, ◌+◌, List, [], ◌∷◌, ◌++◌, length, length-append, map, filter, slice_get, Bool, true, false, ◌&&◌, ◌||◌, nat_lt, if◌then◌else◌, Option, Some, None, option_map, refl, sym, ap, ◌∙◌, arith}
+use Rattle.std.proofs.Common.{◌≡◌, ℕ, zero, suc, ◌+◌, List, [], ◌∷◌, ◌++◌, length, length-append, map, filter, slice_get, Bool, true, false, ◌&&◌, ◌||◌, nat_lt, if◌then◌else◌, Option, Some}
+use Rattle.std.proofs.Common.{None, option_map, refl, sym, ap, ◌∙◌, arith}
 use Rattle.std.proofs.lemmas.List.Sums.{sum_by-cons}
-use Rattle.std.specs.List.{sum_by}
-use Rattle.std.specs.Option.{option_map_or, unwrap_or}
-use Rattle.description_types.specs.declared.interface.Interface.{Interface}
-use Rattle.description_types.specs.declared.interface.InterfaceKind.{InterfaceKind}
-use Rattle.description_types.specs.declared.interface.InterfaceKind.TheVariants.{SenderReceiver, ClientServer, ModeSwitch}
-use Rattle.description_types.specs.declared.component.Component.{Component}
-use Rattle.description_types.specs.declared.component.Port.{Port}
-use Rattle.description_types.specs.declared.component.PortKind.{PortKind}
-use Rattle.description_types.specs.declared.description.Description.{Description}
-use Rattle.description_types.specs.declared.flat.Flat.{Flat}
-use Rattle.description_types.specs.declared.flat.Instance.{Instance}
+use Rattle.bus_semantics.specs.Common.{sum_by, option_map_or, unwrap_or}
+use Rattle.plan_definitions.specs.Common.{Interface, InterfaceKind, SenderReceiver, ClientServer, ModeSwitch, Component, Port, PortKind, Description, Flat, Instance, is_element, is_machine}
+use Rattle.plan_definitions.specs.Common.{is_server, from, positions, areas_of, events_of, numbered, count_at, kind_at, provides_at, root_ports, site, sites, sites_at, sites_of_component}
+use Rattle.plan_definitions.specs.Common.{sites_of_instance, sites_of_ports, sites_with, variables_of, machines_of, servers_of, Elem, element_of, group_of, kind_of, leaders, queue_of}
+use Rattle.plan_definitions.specs.Common.{groups, heads, machine_at, callings, point_of, server_of, event_of, events, areas, areas_at, named_areas, plan_of, is_queued, is_too_large}
+use Rattle.plan_definitions.specs.Common.{received, requested, things}
 use Rattle.bus_semantics.specs.declared.plan.ElemKind.{ElemKind}
 use Rattle.bus_semantics.specs.declared.plan.MachinePlan.{MachinePlan}
 use Rattle.bus_semantics.specs.declared.plan.ServerPlan.{ServerPlan}
@@ -19,19 +15,6 @@ use Rattle.bus_semantics.specs.declared.plan.ElemKind.TheVariants as elem
 use Rattle.plan_definitions.specs.declared.site.Site.{Site}
 use Rattle.plan_definitions.specs.declared.site.SiteKind.{SiteKind}
 use Rattle.plan_definitions.specs.declared.site.SiteKind.TheVariants.{Element, Variable, Server, Machine, ModePort}
-use Rattle.plan_definitions.specs.Keys.{is_element, is_machine, is_server}
-use Rattle.plan_definitions.specs.Lists.{from, positions}
-use Rattle.plan_definitions.specs.Parts.{areas_of, events_of, numbered}
-use Rattle.plan_definitions.specs.Sites.{count_at, kind_at, provides_at, root_ports, site, sites, sites_at, sites_of_component, sites_of_instance, sites_of_ports, sites_with, variables_of}
-use Rattle.plan_definitions.specs.Things.{machines_of, servers_of}
-use Rattle.plan_definitions.specs.Elements.{Elem, element_of, group_of, kind_of, leaders, queue_of}
-use Rattle.plan_definitions.specs.ElementGroups.{groups, heads}
-use Rattle.plan_definitions.specs.Modes.{machine_at}
-use Rattle.plan_definitions.specs.Callings.{callings}
-use Rattle.plan_definitions.specs.Services.{point_of, server_of}
-use Rattle.plan_definitions.specs.Started.{event_of, events}
-use Rattle.plan_definitions.specs.Planned.{areas, areas_at, named_areas, plan_of}
-use Rattle.plan_definitions.specs.PlanRules.{is_queued, is_too_large, received, requested, things}
 use Rattle.description_stages.specs.Sizes.{is_past, things_of, waiting_at}
 use Rattle.plan_definitions.proofs.Lists.{many_positions}
 

@@ -4,13 +4,7 @@ use Rattle.std.proofs.lemmas.Cmp.{nat_cmp_total}
 use Rattle.std.specs.List.{AllByRecursion}
 use Rattle.std.specs.List.Sorted.{IsStrictlySortedBy}
 use Rattle.std.specs.Ordering.{nat_cmp, ordering_reverse, ordering_then}
-use Rattle.description_types.specs.declared.description.Description.{Description}
-use Rattle.description_types.specs.Members.{Among}
-use Rattle.description_types.specs.declared.flat.End.{End}
-use Rattle.description_types.specs.declared.flat.Flat.{Flat}
-use Rattle.description_types.specs.declared.flat.Join.{Join}
-use Rattle.description_types.specs.Flattening.{IsFlatOf}
-use Rattle.description_types.specs.Orders.{end_order, instance_order, join_order}
+use Rattle.plan_definitions.specs.Common.{Description, Among, End, Flat, Join, IsFlatOf, end_order, instance_order, join_order}
 use Rattle.description_stages.proofs.Limits.{later}
 
 -- ---- the order of joins has two directions

@@ -1,9 +1,6 @@
 -- What the types of a description keep.
 use Rattle.std.proofs.Common.{◌≡◌, ℕ, ◌<◌, ◌^◌, List, [], map, length, true, ◌&&◌, ltb, codes, Some, None, refl, sym, ap, subst, arith, ◌∙◌, ◌⊎◌, inl, inr, ◌∷◌, cond, bytes_eq}
-use Rattle.std.specs.List.{list_all, slice_get}
-use Rattle.std.specs.Option.{option_and_then, unwrap_or}
-use Rattle.std.proofs.lemmas.Bool.{and_from, false≢true}
-use Rattle.std.proofs.lemmas.List.{length-map}
+use Rattle.bus_semantics.specs.Common.{list_all, slice_get, option_and_then, unwrap_or, and_from, false≢true, length-map, is_in}
 use mathlib.Core.List.{map-map}
 use Rattle.serde_json.specs.Data.{Data, null, boolean, number, string, array, object, Items}
 use Rattle.serde_json.specs.Find.{as_number, as_str, as_u64, get, get_item}
@@ -18,21 +15,14 @@ use Rattle.description_places.specs.Keys.{needed, optional}
 use Rattle.description_places.specs.Names.{is_name}
 use Rattle.description_places.specs.Shape.{holds, is_within, part_count}
 use Rattle.description_places.specs.Spots.{Spot, top, inside, inside_part}
-use Rattle.description_types.specs.declared.base_type.DataType.{DataType}
-use Rattle.description_types.specs.declared.interface.ApplicationError.{ApplicationError}
-use Rattle.description_types.specs.declared.interface.DataElement.{DataElement}
-use Rattle.description_types.specs.declared.interface.Interface.{Interface}
-use Rattle.description_types.specs.declared.interface.Operation.{Operation}
-use Rattle.description_types.specs.declared.interface.TypeTable.{TypeTable}
-use Rattle.description_types.specs.Ranges.{keeps_range}
-use Rattle.description_types.specs.Refusals.{is_sound, operations_in, type_refusal}
+use Rattle.plan_definitions.specs.Common.{DataType, ApplicationError, DataElement, Interface, Operation, TypeTable, keeps_range, is_sound, operations_in, type_refusal, group_fits, kind_fits}
+use Rattle.plan_definitions.specs.Common.{names_fit, operation_fits, type_fits, types_fit}
 use Rattle.declared_names.specs.Names.{has_name, position_in, short_names, texts}
 use Rattle.declared_names.specs.Scopes.{item_names, type_names}
 use Rattle.declared_names.specs.Values.{items_at, listed, number_at, text_at, text_at_in, text_in}
-use Rattle.component_model.specs.Types.{data_element_reading, data_type_reading, error_reading, interface_kind_reading, interface_reading, mode_element_reading, mode_group_reading, operation_reading, types_reading}
+use Rattle.component_model.specs.Types.{data_element_reading, data_type_reading, error_reading, interface_kind_reading, interface_reading, mode_element_reading, mode_group_reading}
+use Rattle.component_model.specs.Types.{operation_reading, types_reading}
 use Rattle.bus_semantics.specs.SoundNames as bus
-use Rattle.bus_semantics.specs.SoundPlan.{is_in}
-use Rattle.plan_definitions.specs.WellFormed.{group_fits, kind_fits, names_fit, operation_fits, type_fits, types_fit}
 use Rattle.description_stages.proofs.Kept.{Kept, kept_part, shape_here, repeated_here, found_here}
 use Rattle.description_stages.proofs.Naming.{all_listed, name_fits, names_kept, Objects, on_list, short_names_fit}
 use Rattle.description_stages.proofs.Positions.{first_placed, items_there, low, made_at}

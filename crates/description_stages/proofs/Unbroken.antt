@@ -1,24 +1,17 @@
 -- Where the rules of types and of initial values are unbroken, each type, operation and initial value keeps them.
 use Rattle.std.proofs.Common.{◌≡◌, ℕ, zero, suc, ◌+◌, List, [], ◌∷◌, ◌++◌, map, Bool, true, false, ◌&&◌, Some, None, refl, sym, subst}
-use Rattle.std.specs.List.{list_all}
-use Rattle.std.proofs.lemmas.Bool.{and_parts, and_from}
-use Rattle.std.proofs.lemmas.Option.{none-some, same_Some}
+use Rattle.bus_semantics.specs.Common.{list_all, and_parts, and_from, none-some, same_Some}
 use Rattle.serde_json.specs.Data.{Data, Items, no_items, item}
 use Rattle.serde_json.specs.Find.{get_item}
 use Rattle.declared_names.specs.Values.{listed}
-use Rattle.description_types.specs.Lists.{first, from, unless}
-use Rattle.description_types.specs.Refusals.{broken, broken_types, broken_operations, broken_among, is_sound, of_rule, operation_place, operations_in, type_place, type_refusal}
-use Rattle.description_types.specs.Ranges.{keeps_range}
-use Rattle.description_types.specs.declared.interface.Interface.{Interface}
-use Rattle.description_types.specs.declared.interface.TypeTable.{TypeTable}
-use Rattle.description_types.specs.declared.component.Port.{Port}
-use Rattle.description_types.specs.declared.component.Variable.{Variable}
-use Rattle.description_types.specs.declared.description.Composition.{Composition}
+use Rattle.plan_definitions.specs.Common.{first, broken, broken_types, broken_operations, broken_among, is_sound, operation_place, operations_in, type_place, type_refusal, keeps_range}
+use Rattle.plan_definitions.specs.Common.{Interface, TypeTable, Port, Variable, Composition, keeps, keeps_element}
+use Rattle.description_types.specs.Lists.{from, unless}
+use Rattle.description_types.specs.Refusals.{of_rule}
 use Rattle.component_model.specs.declared.initials.Initial.TheVariants.{OfPort, OfVariable}
 use Rattle.component_model.specs.declared.initials.Owner.{Owner}
 use Rattle.component_model.specs.declared.initials.Owner.TheVariants as owner
 use Rattle.component_model.specs.Descriptions.{DescriptionTree}
-use Rattle.description_types.specs.Initials.{keeps, keeps_element}
 use Rattle.component_model.specs.Initials.{broken_initials, broken_of_component, broken_of_composition, broken_of_port, broken_of_ports, broken_of_variables, initial_place}
 use Rattle.component_model.specs.Programs.{ComponentTree}
 

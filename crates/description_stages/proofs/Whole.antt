@@ -1,15 +1,11 @@
 -- The stages of a description put together.
 use Rattle.std.proofs.Common.{◌<◌, ◌^◌, ℕ, sym, subst, length, List}
-use Rattle.description_types.specs.declared.description.Description.{Description}
+use Rattle.plan_definitions.specs.Common.{Description, Flat, IsWellFormed, IsWhole}
 use Rattle.component_model.specs.Descriptions.{description_of}
 use Rattle.component_model.specs.Refusals.{IsRead}
-use Rattle.description_types.specs.declared.flat.Flat.{Flat}
 use Rattle.bus_semantics.specs.declared.plan.BusPlan.{BusPlan}
 use Rattle.bus_semantics.specs.declared.script.Mapping.{Mapping}
-use Rattle.bus_semantics.specs.Plan.{plan_of}
-use Rattle.bus_semantics.specs.Sound.{IsSound}
-use Rattle.plan_definitions.specs.WellFormed.{IsWellFormed}
-use Rattle.plan_definitions.specs.Whole.{IsWhole}
+use Rattle.bus_semantics.specs.Common.{plan_of, IsSound}
 use Rattle.description_stages.specs.declared.joining.JoinedDescription.{JoinedDescription}
 use Rattle.description_stages.specs.declared.planning.PlannedDescription.{PlannedDescription}
 use Rattle.description_stages.specs.Plans.{IsPlannedFrom, IsPlannedOf}

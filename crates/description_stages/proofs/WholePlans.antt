@@ -1,24 +1,17 @@
 -- The bytes of a description have one plan or one refusal.
 use Rattle.std.proofs.Common.{◌≡◌, ℕ, List, [], ◌∷◌, map, Some, None, inl, inr, refl, sym, ap, subst, ◌∙◌, ◌⊎◌}
-use Rattle.std.proofs.lemmas.Option.{same_Some}
+use Rattle.bus_semantics.specs.Common.{same_Some, Value-by_words}
 use Rattle.serde_json.specs.Data.{Data}
 use Rattle.rte_text.specs.declared.refusal.Refusal.{Refusal}
 use Rattle.rte_text.specs.declared.refusal.Refused.TheVariants.{Rule}
-use Rattle.rte_value.specs.EqualValues.{Value-by_words}
-use Rattle.description_types.specs.declared.description.Description.{Description}
+use Rattle.plan_definitions.specs.Common.{Description, Flat, IsFlatOf, mapping_of, elem_seen, plan_of, seen, IsRefusal}
 use Rattle.description_places.specs.Rules.{IsUnreadable, Reads}
 use Rattle.component_model.specs.Descriptions.{DescriptionTree, description_of, reading}
 use Rattle.component_model.specs.Refusals.{Breaks, IsRead, refusal}
 use Rattle.bus_semantics.specs.declared.plan.BusPlan.{BusPlan}
 use Rattle.bus_semantics.specs.declared.plan.ElemPlan.{ElemPlan}
 use Rattle.bus_semantics.specs.Plan as bus
-use Rattle.description_types.specs.declared.flat.Flat.{Flat}
-use Rattle.description_types.specs.Flattening.{IsFlatOf}
 use Rattle.plan_definitions.specs.JoinRefusals as joins
-use Rattle.plan_definitions.specs.Tasks.{mapping_of}
-use Rattle.plan_definitions.specs.Elements.{elem_seen}
-use Rattle.plan_definitions.specs.Planned.{plan_of, seen}
-use Rattle.plan_definitions.specs.PlanRefusals.{IsRefusal}
 use Rattle.description_stages.specs.declared.planning.PlannedDescription.{PlannedDescription}
 use Rattle.description_stages.specs.Plans.{IsPlanRefusalOf, IsPlannedOf}
 use Rattle.description_stages.specs.Stages.{IsJoinRefusalOf}

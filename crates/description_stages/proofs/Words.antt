@@ -1,9 +1,7 @@
 -- Values whose kind a word of theirs tells.
 use Rattle.std.proofs.Common.{◌≡◌, ℕ, List, [], ◌∷◌, Bool, true, false, ◌&&◌, cond, bytes_eq, codes, Option, Some, None, refl, sym, ap, subst, ◌∙◌, ◌⊎◌, inl, inr}
-use Rattle.std.specs.List.{find, list_all, slice_get}
-use Rattle.std.specs.Option.{option_and_then, unwrap_or}
-use Rattle.std.proofs.lemmas.Bool.{and_parts, and_from, cond_both, or_cases, false≢true}
-use Rattle.std.proofs.lemmas.Slice.Eq.{bytes_eq-Decides}
+use Rattle.bus_semantics.specs.Common.{find, list_all, slice_get, option_and_then, unwrap_or, and_parts, and_from, or_cases, false≢true, bytes_eq-Decides}
+use Rattle.std.proofs.lemmas.Bool.{cond_both}
 use Rattle.serde_json.specs.Data.{Data, null, boolean, number, string, array, object}
 use Rattle.serde_json.specs.Find.{as_str}
 use Rattle.declared_names.specs.Values.{text_at}

@@ -6,11 +6,7 @@ use Rattle.component_model.specs.Descriptions.{description_of}
 use Rattle.component_model.specs.Refusals.{IsRead}
 use Rattle.bus_semantics.specs.Plan as bus
 use Rattle.bus_semantics.specs.Sound.{IsSound}
-use Rattle.plan_definitions.specs.MappingRules.{HaveOrder}
-use Rattle.plan_definitions.specs.Tasks.{mapping_of}
-use Rattle.plan_definitions.specs.Planned.{plan_of, seen}
-use Rattle.plan_definitions.specs.PlanRefusals.{IsRefusal}
-use Rattle.plan_definitions.specs.Whole.{IsWhole}
+use Rattle.plan_definitions.specs.Common.{HaveOrder, mapping_of, plan_of, seen, IsRefusal, IsWhole}
 use Rattle.description_stages.specs.declared.joining.JoinedDescription.{JoinedDescription}
 use Rattle.description_stages.specs.declared.planning.PlannedDescription.{PlannedDescription}
 use Rattle.description_stages.specs.Stages.{IsJoinedOf}

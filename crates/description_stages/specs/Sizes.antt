@@ -3,20 +3,10 @@
 -- switches may wait, and there are at most 262,144 points.
 use Rattle.std.specs.Prelude.{ℕ, ◌+◌, length, sum_by, Bool, false, ◌||◌, nat_lt, if◌then◌else◌}
 use Rattle.std.specs.Option.{unwrap_or}
-use Rattle.description_types.specs.declared.description.Description.{Description}
-use Rattle.description_types.specs.declared.flat.Flat.{Flat}
+use Rattle.plan_definitions.specs.Common.{Description, Flat, areas_of, events_of, sites, queue_length_of, machines_of, servers_of, kind_of, leaders, heads, server_of, is_queued, callings}
 use Rattle.plan_definitions.specs.declared.site.Site.{Site}
 use Rattle.plan_definitions.specs.declared.site.SiteKind.{SiteKind}
 use Rattle.plan_definitions.specs.declared.site.SiteKind.TheVariants.{Element, Server, Machine}
-use Rattle.plan_definitions.specs.Parts.{areas_of, events_of}
-use Rattle.plan_definitions.specs.Sites.{sites}
-use Rattle.plan_definitions.specs.Ports.{queue_length_of}
-use Rattle.plan_definitions.specs.Things.{machines_of, servers_of}
-use Rattle.plan_definitions.specs.Elements.{kind_of, leaders}
-use Rattle.plan_definitions.specs.ElementGroups.{heads}
-use Rattle.plan_definitions.specs.Services.{server_of}
-use Rattle.plan_definitions.specs.PlanRules.{is_queued}
-use Rattle.plan_definitions.specs.Callings.{callings}
 
 -- the groups of data elements, each by its least element, the servers, the exclusive areas, the mode machines, and the clock
 abbrev pub things_of : Description → Flat → ℕ

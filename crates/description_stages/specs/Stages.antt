@@ -2,14 +2,11 @@
 use Rattle.std.specs.Prelude.{◌≡◌, ℕ, List, Option, Some, None, ◌⊎◌}
 use Rattle.rte_text.specs.declared.refusal.Refused.{Refused}
 use Rattle.rte_text.specs.declared.refusal.Refused.TheVariants.{Rule, Memory}
-use Rattle.description_types.specs.declared.description.Description.{Description}
+use Rattle.plan_definitions.specs.Common.{Description, Flat, IsFlatOf, refusal}
 use Rattle.component_model.specs.Descriptions.{description_of}
 use Rattle.component_model.specs.Refusals as reading
 use Rattle.component_model.specs.Refusals.{IsRead}
-use Rattle.description_types.specs.declared.flat.Flat.{Flat}
 use Rattle.description_types.specs.Flattening as flattening
-use Rattle.description_types.specs.Flattening.{IsFlatOf}
-use Rattle.plan_definitions.specs.JoinRefusals.{refusal}
 use Rattle.description_stages.specs.declared.joining.JoinedDescription.{JoinedDescription}
 
 -- the bytes are read as the description, it is made flat, and what is joined may be joined

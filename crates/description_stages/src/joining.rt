@@ -1,8 +1,7 @@
 //! From the bytes of a description to what its connectors join.
 
 ghost use Rattle.std.specs.Prelude.{◌≡◌, IfErr, IfOk, None, OnOk};
-ghost use Rattle.description_types.specs.Flattening.{IsFlatOf};
-ghost use Rattle.plan_definitions.specs.JoinRefusals.{refusal};
+ghost use Rattle.plan_definitions.specs.Common.{IsFlatOf, refusal};
 ghost use Rattle.declared_names.specs.Sizes.{AreFew};
 ghost use Rattle.end_search.specs.Matching.{HasFewItems};
 ghost use Rattle.description_stages.specs.Stages.{IsJoinRefusalOf, IsJoinedOf, IsRefusalOf, IsToldAs};

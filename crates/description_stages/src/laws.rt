@@ -1,10 +1,9 @@
 //! The law of descriptions that are read, of the bytes of a slice, which are fewer than 2 ^ 64.
 
 ghost use Rattle.std.specs.Prelude.{ℕ, ◌^◌, ◌<◌, List, length};
-ghost use Rattle.description_types.specs.declared.description.Description.{Description};
+ghost use Rattle.plan_definitions.specs.Common.{Description, IsWellFormed};
 ghost use Rattle.component_model.specs.Descriptions.{description_of};
 ghost use Rattle.component_model.specs.Refusals.{IsRead};
-ghost use Rattle.plan_definitions.specs.WellFormed.{IsWellFormed};
 
 use description_places::unbroken_descriptions;
 

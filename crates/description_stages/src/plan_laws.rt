@@ -1,10 +1,7 @@
 //! The laws.
 
 ghost use Rattle.std.specs.Prelude.{◌≡◌, ℕ, List};
-ghost use Rattle.description_types.specs.declared.flat.Flat.{Flat};
-ghost use Rattle.description_types.specs.declared.description.Description.{Description};
-ghost use Rattle.plan_definitions.specs.Planned.{plan_of};
-ghost use Rattle.plan_definitions.specs.PlanRules.{is_too_large};
+ghost use Rattle.plan_definitions.specs.Common.{Flat, Description, plan_of, is_too_large};
 ghost use Rattle.rte_text.specs.declared.refusal.Refusal.{Refusal};
 ghost use Rattle.rte_text.specs.declared.refusal.Refused.TheVariants.{Rule};
 ghost use Rattle.api_header.specs.Headers.{header_of};

@@ -1,9 +1,7 @@
 //! From the bytes of a description to its plan and its mapping.
 
 ghost use Rattle.std.specs.Prelude.{◌≡◌, ◌≤◌, IfErr, IfOk, length, true};
-ghost use Rattle.plan_definitions.specs.PlanRefusals.{IsRefusal};
-ghost use Rattle.plan_definitions.specs.Sizes.{HasFewParts};
-ghost use Rattle.plan_definitions.specs.WellFormed.{types_fit};
+ghost use Rattle.plan_definitions.specs.Common.{IsRefusal, HasFewParts, types_fit};
 ghost use Rattle.declared_names.specs.Sizes.{AreFew};
 ghost use Rattle.description_stages.specs.Plans.{IsPlanRefusalOf, IsPlannedFrom, IsPlannedOf, IsToldBy};
 

@@ -1,12 +1,9 @@
 //! The law of sound plans.
 
-ghost use Rattle.description_types.specs.declared.description.Description.{Description};
-ghost use Rattle.description_types.specs.declared.flat.Flat.{Flat};
+ghost use Rattle.plan_definitions.specs.Common.{Description, Flat, IsWhole};
 ghost use Rattle.bus_semantics.specs.declared.plan.BusPlan.{BusPlan};
 ghost use Rattle.bus_semantics.specs.declared.script.Mapping.{Mapping};
-ghost use Rattle.bus_semantics.specs.Plan.{plan_of};
-ghost use Rattle.bus_semantics.specs.Sound.{IsSound};
-ghost use Rattle.plan_definitions.specs.Whole.{IsWhole};
+ghost use Rattle.bus_semantics.specs.Common.{plan_of, IsSound};
 
 use sound_plans::{
     bundles_of_plans_fit, direct_servers_fit, elements_of_plans_are_sound, events_fit,

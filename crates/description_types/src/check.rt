@@ -3,7 +3,8 @@
 ghost use Rattle.std.specs.Prelude.{◌≡◌, ℕ, List, IfOk, map, option_map, slice_get};
 ghost use Rattle.std.specs.List.{list_all};
 ghost use Rattle.description_types.specs.Lists.{first};
-ghost use Rattle.description_types.specs.Refusals.{one_word, is_sound_argument, has_distinct_codes, is_sound, operations_in, broken_types, broken_among, broken_operations, type_place, operation_place, type_refusal, Tells};
+ghost use Rattle.description_types.specs.Refusals.{one_word, is_sound_argument, has_distinct_codes, is_sound, operations_in, broken_types, broken_among, broken_operations, type_place};
+ghost use Rattle.description_types.specs.Refusals.{operation_place, type_refusal, Tells};
 
 use crate::base_type::{DataType, keeps_range};
 use crate::interface::{

@@ -1,5 +1,6 @@
 -- Interfaces by the keys of their items.
-use Rattle.std.proofs.Common.{◌≡◌, ℕ, ◌+◌, ◌<◌, List, [], ◌∷◌, length, get_or, map, take, Bor, IsTrue, nat_eq, bytes_eq, slice_get, option_map, Some, None, ◌⊎◌, inl, inr, ⊎_elim, ◌↔◌, refl, sym, ap, subst, ◌∙◌}
+use Rattle.std.proofs.Common.{◌≡◌, ℕ, ◌+◌, ◌<◌, List, [], ◌∷◌, length, get_or, map, take, Bor, IsTrue, nat_eq, bytes_eq, slice_get, option_map, Some, None, ◌⊎◌, inl, inr, ⊎_elim, ◌↔◌, refl}
+use Rattle.std.proofs.Common.{sym, ap, subst, ◌∙◌}
 use Rattle.std.proofs.lemmas.Bool.{eq-eqb, and_from}
 use Rattle.std.proofs.lemmas.List.{take_more, map-append}
 use Rattle.std.specs.Cmp.Lexicographic.{bytes_decides}

@@ -1,5 +1,6 @@
 -- Names and ends, as they are noted and looked up.
-use Rattle.std.proofs.Common.{◌≡◌, ℕ, ◌+◌, ◌^◌, ◌<◌, ◌≤◌, List, [], ◌∷◌, length, get_or, take, ◌⊎◌, inl, inr, ⊎_elim, ◌↔◌, sym, subst, ◌∙◌, IsTrue, nat_eq, Some, None, Vec, Bor, slice_get, option_map, unwrap_or, ap, arith}
+use Rattle.std.proofs.Common.{◌≡◌, ℕ, ◌+◌, ◌^◌, ◌<◌, ◌≤◌, List, [], ◌∷◌, length, get_or, take, ◌⊎◌, inl, inr, ⊎_elim, ◌↔◌, sym, subst, ◌∙◌, IsTrue, nat_eq, Some, None, Vec, Bor, slice_get}
+use Rattle.std.proofs.Common.{option_map, unwrap_or, ap, arith}
 use Rattle.std.proofs.lemmas.Bool.{cases_lt, eqb-true, eq-eqb}
 use Rattle.std.proofs.lemmas.List.{take_more, take_all, length-map}
 use Rattle.composition_tables.specs.declared.tree.Owner.TheVariants.{Instance}

@@ -1,5 +1,6 @@
 -- Searches for ends, step by step.
-use Rattle.std.proofs.Common.{◌≡◌, ℕ, List, Bool, true, false, ◌||◌, nat_eq, Vec, Option, None, ◌⊎◌, inl, inr, ⊎_elim, true≢false, refl, subst, zero, suc, ◌+◌, ◌-◌, ◌^◌, ◌<◌, ◌≤◌, min, [], ◌∷◌, ◌++◌, length, get_or, map, take, drop, Some, ◌↔◌, sym, ap, ◌∙◌, arith}
+use Rattle.std.proofs.Common.{◌≡◌, ℕ, List, Bool, true, false, ◌||◌, nat_eq, Vec, Option, None, ◌⊎◌, inl, inr, ⊎_elim, true≢false, refl, subst, zero, suc, ◌+◌, ◌-◌, ◌^◌, ◌<◌, ◌≤◌, min, []}
+use Rattle.std.proofs.Common.{◌∷◌, ◌++◌, length, get_or, map, take, drop, Some, ◌↔◌, sym, ap, ◌∙◌, arith}
 use Rattle.std.specs.Global.{Global}
 use Rattle.description_types.specs.declared.description.Description.{Description}
 use Rattle.composition_tables.specs.declared.tree.PortEnd.{PortEnd}

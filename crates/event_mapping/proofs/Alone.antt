@@ -1,18 +1,11 @@
 -- Elements that no join names: each leads a group of its own. Each join names two at most.
-use Rattle.std.proofs.Common.{◌≡◌, ℕ, zero, suc, ◌+◌, ◌≤◌, List, [], ◌∷◌, ◌++◌, length, map, filter, Bool, true, false, cond, not, ◌||◌, nat_eq, Option, Some, None, unwrap_or, inl, inr, refl, sym, ap, subst, ◌∙◌, true≢false, arith, slice_get}
-use Rattle.std.proofs.lemmas.Bool.{eq-eqb, or_parts}
+use Rattle.std.proofs.Common.{◌≡◌, ℕ, zero, suc, ◌+◌, ◌≤◌, List, [], ◌∷◌, ◌++◌, length, map, filter, Bool, true, false, cond, not, ◌||◌, nat_eq, Option, Some, None, unwrap_or, inl, inr}
+use Rattle.std.proofs.Common.{refl, sym, ap, subst, ◌∙◌, true≢false, arith, slice_get}
+use Rattle.bus_semantics.specs.Common.{eq-eqb, or_parts, position_from, option_map_or}
 use Rattle.std.proofs.lemmas.List.Filters.{length-filter_both}
-use Rattle.std.specs.List.{position_from}
-use Rattle.std.specs.Option.{option_map_or}
-use Rattle.description_types.specs.declared.flat.End.{End}
-use Rattle.description_types.specs.declared.flat.Join.{Join}
-use Rattle.description_types.specs.Members.{Among}
+use Rattle.plan_definitions.specs.Common.{End, Join, Among, end_at, end_of, is_joined, partners, same_end, Key, end_key, key_of, keys_of, number_in, same_key, from, site, groups}
+use Rattle.plan_definitions.specs.Common.{group_number, head_at, heads, leader, leader_of, least, members, nearest, own_number}
 use Rattle.plan_definitions.specs.declared.site.Site.{Site}
-use Rattle.plan_definitions.specs.Joined.{end_at, end_of, is_joined, partners, same_end}
-use Rattle.plan_definitions.specs.Keys.{Key, end_key, key_of, keys_of, number_in, same_key}
-use Rattle.plan_definitions.specs.Lists.{from}
-use Rattle.plan_definitions.specs.Sites.{site}
-use Rattle.plan_definitions.specs.ElementGroups.{groups, group_number, head_at, heads, leader, leader_of, least, members, nearest, own_number}
 use Rattle.plan_definitions.proofs.Apart.{Apart}
 use Rattle.plan_definitions.proofs.Keys.{key_is, same_end_is, same_key_is, same_key_refl}
 use Rattle.plan_definitions.proofs.Lists.{as_many, at}

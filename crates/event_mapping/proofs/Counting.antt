@@ -1,26 +1,11 @@
 -- Few things are numbered of a description that lists few, made flat within limits, where its counts do not foretell that its plan is
 -- too large.
 use Rattle.std.proofs.Common.{◌≡◌, ℕ, ◌+◌, ◌*◌, ◌^◌, ◌<◌, ◌≤◌, List, [], ◌∷◌, length, filter, slice_get, Bool, true, false, cond, ◌||◌, Option, Some, None, is_some, option_map, refl, arith}
-use Rattle.std.proofs.lemmas.List.{length-append, length-map}
-use Rattle.std.specs.List.{find}
-use Rattle.std.specs.Option.{option_map_or}
-use Rattle.description_types.specs.declared.component.Component.{Component}
-use Rattle.description_types.specs.declared.description.Description.{Description}
-use Rattle.description_types.specs.declared.flat.End.{End}
-use Rattle.description_types.specs.declared.flat.Flat.{Flat}
-use Rattle.description_types.specs.declared.flat.Instance.{Instance}
-use Rattle.description_types.specs.declared.flat.Join.{Join}
+use Rattle.bus_semantics.specs.Common.{length-append, length-map, find, option_map_or}
+use Rattle.plan_definitions.specs.Common.{Component, Description, End, Flat, Instance, Join, callings, end_of, is_joined, provider_of, same_end, is_mode_port, key_of, of_kind, from, counted}
+use Rattle.plan_definitions.specs.Common.{counted_at, numbered, point_of, points, sites, HasFewParts, HasFewThings, has_machine, mode_ports_of}
 use Rattle.plan_definitions.specs.declared.part.Part.{Part}
 use Rattle.plan_definitions.specs.declared.site.Site.{Site}
-use Rattle.plan_definitions.specs.Callings.{callings}
-use Rattle.plan_definitions.specs.Joined.{end_of, is_joined, provider_of, same_end}
-use Rattle.plan_definitions.specs.Keys.{is_mode_port, key_of, of_kind}
-use Rattle.plan_definitions.specs.Lists.{from}
-use Rattle.plan_definitions.specs.Parts.{counted, counted_at, numbered}
-use Rattle.plan_definitions.specs.Services.{point_of, points}
-use Rattle.plan_definitions.specs.Sites.{sites}
-use Rattle.plan_definitions.specs.Sizes.{HasFewParts, HasFewThings}
-use Rattle.plan_definitions.specs.Things.{has_machine, mode_ports_of}
 use Rattle.plan_definitions.proofs.Apart.{apart_filter}
 use Rattle.plan_definitions.proofs.Sites.{sites_apart}
 use Rattle.plan_definitions.proofs.Lists.{as_many}

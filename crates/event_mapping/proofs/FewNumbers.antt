@@ -1,20 +1,12 @@
 -- 32 bits number what a plan that keeps rule 30 has of each kind.
 use Rattle.std.proofs.Common.{◌≡◌, ℕ, ◌^◌, ◌<◌, ◌≤◌, List, length, Bool, true, false, cond, ◌||◌, nat_lt, Option, Some, None, unwrap_or, refl, sym, ap, ◌∙◌, arith}
-use Rattle.std.proofs.lemmas.Bool.{ltb-false, or_parts}
-use Rattle.std.proofs.lemmas.List.{length-map}
+use Rattle.bus_semantics.specs.Common.{ltb-false, or_parts, length-map}
 use Rattle.bus_semantics.specs.declared.plan.BusPlan.{BusPlan}
-use Rattle.description_types.specs.declared.description.Description.{Description}
-use Rattle.description_types.specs.declared.flat.Flat.{Flat}
+use Rattle.plan_definitions.specs.Common.{Description, Flat, elem_seen, IsAfter, mapping_text, mode_port_at, Planned, plan_of, seen, IsOfLists, IsOfSize, IsRefusal, IsThen, is_too_large}
+use Rattle.plan_definitions.specs.Common.{queue_lengths, things, mode_ports_of}
 use Rattle.plan_definitions.specs.declared.site.Site.{Site}
 use Rattle.plan_definitions.specs.ComponentRefusals as components
-use Rattle.plan_definitions.specs.Elements.{elem_seen}
-use Rattle.plan_definitions.specs.MappingRefusals.{IsAfter, mapping_text}
 use Rattle.plan_definitions.specs.MappingRefusals as mapping
-use Rattle.plan_definitions.specs.Modes.{mode_port_at}
-use Rattle.plan_definitions.specs.Planned.{Planned, plan_of, seen}
-use Rattle.plan_definitions.specs.PlanRefusals.{IsOfLists, IsOfSize, IsRefusal, IsThen}
-use Rattle.plan_definitions.specs.PlanRules.{is_too_large, queue_lengths, things}
-use Rattle.plan_definitions.specs.Things.{mode_ports_of}
 use Rattle.event_mapping.proofs.Counting.{few_mode_ports}
 use Rattle.event_mapping.proofs.Foretelling.{elements_listed, elements_most}
 

@@ -1,29 +1,14 @@
 -- What the counts tell of a plan.
 use Rattle.std.proofs.Common.{◌≡◌, ℕ, ◌+◌, ◌-◌, ◌<◌, ◌≤◌, ◌==◌, [], filter, length, Bool, true, false, ◌||◌, nat_lt, Option, Some, None, ⊎_elim, refl, sym, ◌∙◌, arith, slice_get}
-use Rattle.std.proofs.lemmas.Bool.{eqb-true, lt-ltb, or_cases, or_left, or_parts, or_right}
-use Rattle.std.proofs.lemmas.List.{length-map}
-use Rattle.std.specs.List.{sum_by}
-use Rattle.std.specs.Option.{option_map_or, unwrap_or}
-use Rattle.description_types.specs.declared.component.Component.{Component}
-use Rattle.description_types.specs.declared.description.Description.{Description}
-use Rattle.description_types.specs.declared.flat.Flat.{Flat}
-use Rattle.description_types.specs.declared.flat.Instance.{Instance}
+use Rattle.bus_semantics.specs.Common.{eqb-true, lt-ltb, or_cases, or_left, or_parts, or_right, length-map, sum_by, option_map_or, unwrap_or}
+use Rattle.plan_definitions.specs.Common.{Component, Description, Flat, Instance, is_element, key_of, sites, elements_of, machines_of, servers_of, element_of, elements, group_of, leaders}
+use Rattle.plan_definitions.specs.Common.{groups, event_of, events, events_of_component, machine_at, machines, callings, point_of, points, server_of, servers, area_of, areas, areas_at}
+use Rattle.plan_definitions.specs.Common.{named_areas, plan_of, is_too_large, queue_lengths, things}
 use Rattle.plan_definitions.specs.declared.site.Site.{Site}
-use Rattle.plan_definitions.specs.Keys.{is_element, key_of}
-use Rattle.plan_definitions.specs.Sites.{sites}
-use Rattle.plan_definitions.specs.Things.{elements_of, machines_of, servers_of}
-use Rattle.plan_definitions.specs.Elements.{element_of, elements, group_of, leaders}
-use Rattle.plan_definitions.specs.ElementGroups.{groups}
-use Rattle.plan_definitions.specs.Started.{event_of, events, events_of_component}
-use Rattle.plan_definitions.specs.Modes.{machine_at, machines}
-use Rattle.plan_definitions.specs.Callings.{callings}
-use Rattle.plan_definitions.specs.Services.{point_of, points, server_of, servers}
 use Rattle.plan_definitions.proofs.Apart.{apart_filter}
 use Rattle.plan_definitions.proofs.Sites.{sites_apart}
 use Rattle.event_mapping.specs.Foretold.{IsForetold, listed}
 use Rattle.event_mapping.specs.Guard.{event_count, events_of_instance, is_counted, item_count, point_count}
-use Rattle.plan_definitions.specs.Planned.{area_of, areas, areas_at, named_areas, plan_of}
-use Rattle.plan_definitions.specs.PlanRules.{is_too_large, queue_lengths, things}
 use Rattle.event_mapping.proofs.Alone.{groups_most}
 use Rattle.event_mapping.proofs.Spending.{some_left}
 use Rattle.event_mapping.proofs.Totals.{areas_in, by_kind, callings_counted, length_from, sites_counted}

@@ -1,18 +1,9 @@
 -- How many coherent access lists instances have.
 use Rattle.std.proofs.Common.{◌≡◌, ℕ, suc, ◌+◌, ◌*◌, ◌^◌, ◌<◌, ◌≤◌, List, [], ◌∷◌, ◌++◌, length, map, slice_get, Option, Some, None, option_and_then, refl, ap, ◌∙◌, arith}
-use Rattle.std.proofs.lemmas.List.{length-append, length-map}
-use Rattle.std.specs.Option.{option_map_or}
-use Rattle.description_types.specs.declared.component.Component.{Component}
-use Rattle.description_types.specs.declared.component.Runnable.{Runnable}
-use Rattle.description_types.specs.declared.description.Description.{Description}
-use Rattle.description_types.specs.declared.flat.Flat.{Flat}
-use Rattle.description_types.specs.declared.flat.Instance.{Instance}
-use Rattle.description_types.specs.Members.{sum_of}
+use Rattle.bus_semantics.specs.Common.{length-append, length-map, option_map_or}
+use Rattle.plan_definitions.specs.Common.{Component, Runnable, Description, Flat, Instance, sum_of, list_of, lists, lists_at, runnable_at, from, positions, component_of, counted, counted_at}
+use Rattle.plan_definitions.specs.Common.{numbered, runnables_of, HasFewParts, list_count}
 use Rattle.plan_definitions.specs.declared.part.Part.TheVariants.{Runnables}
-use Rattle.plan_definitions.specs.Listed.{list_of, lists, lists_at, runnable_at}
-use Rattle.plan_definitions.specs.Lists.{from, positions}
-use Rattle.plan_definitions.specs.Parts.{component_of, counted, counted_at, numbered, runnables_of}
-use Rattle.plan_definitions.specs.Sizes.{HasFewParts, list_count}
 
 -- ---- sums
 

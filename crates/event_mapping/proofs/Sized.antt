@@ -2,15 +2,9 @@
 use Rattle.std.proofs.Common.{◌≡◌, ◌+◌, ◌^◌, ◌<◌, ◌≤◌, ℕ, List, map, Bool, true, false, cond, not, ◌||◌, nat_le, nat_lt, length, is_some, Some, None, refl, ap, arith}
 use Rattle.std.proofs.lemmas.Bool.{leb-false, leb-true, ltb-false, ltb-true, or_parts}
 use Rattle.std.specs.List.{sum_by}
-use Rattle.description_types.specs.declared.description.Description.{Description}
-use Rattle.description_types.specs.declared.flat.Flat.{Flat}
+use Rattle.plan_definitions.specs.Common.{Description, Flat, Elem, groups, groups_listed, object_count, plan_of, is_too_large, received, requested}
 use Rattle.bus_semantics.specs.declared.plan.CoherentList.{CoherentList}
 use Rattle.bus_semantics.specs.declared.plan.MachinePlan.{MachinePlan}
-use Rattle.plan_definitions.specs.Elements.{Elem}
-use Rattle.plan_definitions.specs.ElementGroups.{groups}
-use Rattle.plan_definitions.specs.Listed.{groups_listed}
-use Rattle.plan_definitions.specs.Planned.{object_count, plan_of}
-use Rattle.plan_definitions.specs.PlanRules.{is_too_large, received, requested}
 use Rattle.plan_definitions.proofs.Labels.{groups_few, many_leaders}
 use Rattle.plan_elements.specs.Bundled.{leaders_over}
 use Rattle.event_mapping.specs.declared.pieces.Pieces.{Pieces}

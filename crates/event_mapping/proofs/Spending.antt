@@ -1,12 +1,8 @@
 -- Counts that go down.
 use Rattle.std.proofs.Common.{◌≡◌, ℕ, zero, suc, ◌+◌, ◌-◌, ◌<◌, ◌==◌, Bool, true, false, nat_lt, List, [], ◌∷◌, map, Option, Some, None, unwrap_or, refl, ◌∙◌, arith, slice_get}
-use Rattle.std.proofs.lemmas.Bool.{eqb-true, ltb-false, ltb-true}
+use Rattle.bus_semantics.specs.Common.{eqb-true, ltb-false, ltb-true, sum_by, option_map_or}
 use Rattle.std.proofs.lemmas.List.Sums.{sum_by-cons}
-use Rattle.std.specs.List.{sum_by}
-use Rattle.std.specs.Option.{option_map_or}
-use Rattle.description_types.specs.declared.component.Component.{Component}
-use Rattle.description_types.specs.declared.description.Description.{Description}
-use Rattle.description_types.specs.declared.flat.Instance.{Instance}
+use Rattle.plan_definitions.specs.Common.{Component, Description, Instance}
 use Rattle.event_mapping.specs.Guard.{at_most}
 use Rattle.event_mapping.proofs.Totals.{looked_up}
 

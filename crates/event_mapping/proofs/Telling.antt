@@ -3,10 +3,7 @@ use Rattle.std.proofs.Common.{◌≡◌, ℕ, List, Bool, true, false, if◌then
 use Rattle.rte_text.specs.declared.refusal.Refused.{Refused}
 use Rattle.rte_text.specs.declared.refusal.Refused.TheVariants.{Rule, Memory}
 use Rattle.plan_definitions.specs.Telling.{Tells as Says}
-use Rattle.plan_definitions.specs.MappingRefusals.{IsAfter, Tells, mapping_text}
-use Rattle.plan_definitions.specs.Planned.{Planned}
-use Rattle.plan_definitions.specs.PlanRefusals.{IsThen, of_size}
-use Rattle.plan_definitions.specs.PlanRules.{is_too_large}
+use Rattle.plan_definitions.specs.Common.{IsAfter, Tells, mapping_text, Planned, IsThen, of_size, is_too_large}
 
 -- the same as a relation, and of another type of what is accepted
 pub as_told : {U : Type 0} (o : Option (ℕ × List ℕ)) (r : Result U Refused) → Says o r → Tells (λ x. o ≡ x) r

@@ -1,36 +1,18 @@
 -- As much is listed as was counted.
 use Rattle.std.proofs.Common.{◌≡◌, ℕ, zero, suc, ◌+◌, List, [], ◌∷◌, length, map, filter, Bool, true, false, cond, Option, Some, None, option_map, unwrap_or, refl, sym, ap, ◌∙◌, arith, slice_get}
-use Rattle.std.proofs.lemmas.List.{length-append}
-use Rattle.std.proofs.lemmas.List.Elements.{filter-append}
+use Rattle.bus_semantics.specs.Common.{length-append, filter-append, flat_map, sum_by, option_map_or, AccessKind}
 use Rattle.std.proofs.lemmas.List.Sums.{sum_by-cons}
-use Rattle.std.specs.List.{flat_map, sum_by}
-use Rattle.std.specs.Option.{option_map_or}
-use Rattle.runnable_lang.specs.declared.program.AccessKind.{AccessKind}
 use Rattle.runnable_lang.specs.declared.program.AccessKind.TheVariants as kind
-use Rattle.description_types.specs.declared.interface.ComSpec.{ComSpec}
-use Rattle.description_types.specs.declared.interface.Interface.{Interface}
-use Rattle.description_types.specs.declared.interface.InterfaceKind.{InterfaceKind}
-use Rattle.description_types.specs.declared.interface.InterfaceKind.TheVariants.{SenderReceiver, ClientServer, ModeSwitch}
-use Rattle.description_types.specs.declared.interface.TypeTable.{TypeTable}
-use Rattle.description_types.specs.declared.component.Access.{Access}
-use Rattle.description_types.specs.declared.component.Component.{Component}
-use Rattle.description_types.specs.declared.component.Port.{Port}
-use Rattle.description_types.specs.declared.component.PortKind.{PortKind}
-use Rattle.description_types.specs.declared.component.PortKind.TheVariants.{Provided, Required}
-use Rattle.description_types.specs.declared.component.Runnable.{Runnable}
-use Rattle.description_types.specs.declared.description.Description.{Description}
-use Rattle.description_types.specs.declared.flat.Flat.{Flat}
-use Rattle.description_types.specs.declared.flat.Instance.{Instance}
+use Rattle.plan_definitions.specs.Common.{ComSpec, Interface, InterfaceKind, SenderReceiver, ClientServer, ModeSwitch, TypeTable, Access, Component, Port, PortKind, Provided, Required}
+use Rattle.plan_definitions.specs.Common.{Runnable, Description, Flat, Instance, calling_of, callings, callings_in, callings_of_component, operations_at, outer_calling, outer_callings}
+use Rattle.plan_definitions.specs.Common.{is_element, is_machine, is_server, from, positions, of_instances, count_at, kind_at, root_ports, shape_at, site, sites, sites_at}
+use Rattle.plan_definitions.specs.Common.{sites_of_component, sites_of_instance, sites_of_ports, sites_with, variables_of}
 use Rattle.plan_definitions.specs.declared.site.Site.{Site}
 use Rattle.plan_definitions.specs.declared.site.SiteKind.{SiteKind}
 use Rattle.plan_definitions.specs.declared.site.SiteKind.TheVariants.{Element, Variable, Server, Machine, ModePort}
-use Rattle.plan_definitions.specs.Callings.{calling_of, callings, callings_in, callings_of_component, operations_at, outer_calling, outer_callings}
-use Rattle.plan_definitions.specs.Keys.{is_element, is_machine, is_server}
-use Rattle.plan_definitions.specs.Lists.{from, positions}
-use Rattle.plan_definitions.specs.Parts.{of_instances}
-use Rattle.plan_definitions.specs.Sites.{count_at, kind_at, root_ports, shape_at, site, sites, sites_at, sites_of_component, sites_of_instance, sites_of_ports, sites_with, variables_of}
 use Rattle.plan_definitions.proofs.Lists.{as_many}
-use Rattle.event_mapping.specs.Guard.{counted_with, is_counted, items_at, items_in, items_of_instance, items_of_ports, item_count, outer_points, point_count, points_at, points_in, points_of_instance, points_of_runnable}
+use Rattle.event_mapping.specs.Guard.{counted_with, is_counted, items_at, items_in, items_of_instance, items_of_ports, item_count, outer_points, point_count, points_at, points_in}
+use Rattle.event_mapping.specs.Guard.{points_of_instance, points_of_runnable}
 
 -- ---- lists that are made of others
 

@@ -1,9 +1,6 @@
 -- What the counts tell before anything is listed.
 use Rattle.std.specs.Prelude.{◌≡◌, ◌≤◌, ◌+◌, ℕ, length, Bool, true, false}
-use Rattle.description_types.specs.declared.description.Description.{Description}
-use Rattle.description_types.specs.declared.flat.Flat.{Flat}
-use Rattle.plan_definitions.specs.Planned.{Planned, plan_of}
-use Rattle.plan_definitions.specs.PlanRules.{is_too_large}
+use Rattle.plan_definitions.specs.Common.{Description, Flat, Planned, plan_of, is_too_large}
 
 -- the elements, servers, areas and mode machines of a plan
 abbrev pub listed : Planned → ℕ

@@ -1,22 +1,10 @@
 -- How much a plan would list, counted before anything is listed.
 use Rattle.std.specs.Prelude.{ℕ, ◌+◌, ◌-◌, List, length, sum_by, Bool, true, false, slice_get, Option, Some, None, if◌then◌else◌}
-use Rattle.std.specs.Option.{option_map_or}
-use Rattle.runnable_lang.specs.declared.program.AccessKind.{AccessKind}
+use Rattle.bus_semantics.specs.Common.{option_map_or, AccessKind}
 use Rattle.runnable_lang.specs.declared.program.AccessKind.TheVariants as kind
-use Rattle.description_types.specs.declared.interface.TypeTable.{TypeTable}
-use Rattle.description_types.specs.declared.component.Access.{Access}
-use Rattle.description_types.specs.declared.component.Component.{Component}
-use Rattle.description_types.specs.declared.component.Port.{Port}
-use Rattle.description_types.specs.declared.component.PortKind.{PortKind}
-use Rattle.description_types.specs.declared.component.PortKind.TheVariants.{Provided, Required}
-use Rattle.description_types.specs.declared.component.Runnable.{Runnable}
-use Rattle.description_types.specs.declared.description.Description.{Description}
-use Rattle.description_types.specs.declared.flat.Flat.{Flat}
-use Rattle.description_types.specs.declared.flat.Instance.{Instance}
+use Rattle.plan_definitions.specs.Common.{TypeTable, Access, Component, Port, PortKind, Provided, Required, Runnable, Description, Flat, Instance, operations_at, root_ports, shape_at}
 use Rattle.plan_definitions.specs.declared.site.SiteKind.{SiteKind}
 use Rattle.plan_definitions.specs.declared.site.SiteKind.TheVariants.{ModePort}
-use Rattle.plan_definitions.specs.Callings.{operations_at}
-use Rattle.plan_definitions.specs.Sites.{root_ports, shape_at}
 
 -- data elements, variables, servers and mode machines; a required mode element has its machine elsewhere
 abbrev pub is_counted : SiteKind → Bool

@@ -1,17 +1,10 @@
 -- The lists of a plan, piece by piece.
 use Rattle.std.specs.Prelude.{◌≡◌, map}
-use Rattle.description_types.specs.declared.flat.Flat.{Flat}
-use Rattle.description_types.specs.declared.description.Description.{Description}
-use Rattle.plan_definitions.specs.Elements.{elem_seen, elements, leaders}
-use Rattle.plan_definitions.specs.ElementGroups.{groups}
-use Rattle.plan_definitions.specs.Started.{events}
-use Rattle.plan_definitions.specs.Modes.{machines, mode_ports}
-use Rattle.plan_definitions.specs.Services.{points, servers}
+use Rattle.plan_definitions.specs.Common.{Flat, Description, elem_seen, elements, leaders, groups, events, machines, mode_ports, points, servers, areas}
 use Rattle.event_mapping.specs.declared.pieces.Pieces.{Pieces}
 use Rattle.event_mapping.specs.declared.pieces.Items.{Items}
 use Rattle.event_mapping.specs.declared.pieces.Modes.{Modes}
 use Rattle.event_mapping.specs.declared.pieces.Services.{Services}
-use Rattle.plan_definitions.specs.Planned.{areas}
 
 pub record AreItems (d : Description) (f : Flat) (x : Items) : Type 0 where
   pub names : x.names ≡ map (λ i. i.path) f.instances

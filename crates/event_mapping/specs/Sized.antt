@@ -1,8 +1,6 @@
 -- How large a plan is, by its pieces.
 use Rattle.std.specs.Prelude.{ℕ, ◌+◌, length, map, sum_by, Bool, ◌||◌, nat_le, nat_lt, if◌then◌else◌, Option, Some, None}
-use Rattle.plan_definitions.specs.Elements.{elem_seen}
-use Rattle.plan_definitions.specs.Planned.{object_count}
-use Rattle.plan_definitions.specs.PlanRules.{received, requested}
+use Rattle.plan_definitions.specs.Common.{elem_seen, object_count, received, requested}
 use Rattle.event_mapping.specs.declared.pieces.Pieces.{Pieces}
 
 -- so many things, if there may be so many

@@ -1,8 +1,7 @@
 //! The exclusive areas of a plan.
 
 ghost use Rattle.std.specs.Prelude.{◌≡◌, ◌<◌, ◌^◌, [], ◌∷◌, ◌++◌, IfOk, OnOk, length, map};
-ghost use Rattle.plan_definitions.specs.Lists.{from};
-ghost use Rattle.plan_definitions.specs.Planned.{area_of, areas, areas_at, named_areas};
+ghost use Rattle.plan_definitions.specs.Common.{from, area_of, areas, areas_at, named_areas};
 
 use bus_semantics::AreaPlan;
 use description_types::{Description, Flat, Instance};

@@ -1,13 +1,8 @@
 //! The whole plan.
 
 ghost use Rattle.std.specs.Prelude.{◌≡◌, ◌≤◌, IfOk, false, length, map, true};
-ghost use Rattle.bus_semantics.specs.Codes.{HaveOneCode};
-ghost use Rattle.bus_semantics.specs.Plan.{runnable_of};
-ghost use Rattle.plan_definitions.specs.Callings.{callings as all_callings};
-ghost use Rattle.plan_definitions.specs.Listed.{list_numbers};
-ghost use Rattle.plan_definitions.specs.Planned.{object_count, plan_of, seen};
-ghost use Rattle.plan_definitions.specs.Started.{runnables};
-ghost use Rattle.plan_definitions.specs.WellFormed.{types_fit};
+ghost use Rattle.bus_semantics.specs.Common.{HaveOneCode, runnable_of};
+ghost use Rattle.plan_definitions.specs.Common.{callings as all_callings, list_numbers, object_count, plan_of, seen, runnables, types_fit};
 ghost use Rattle.event_mapping.specs.Pieces.{ArePieces};
 ghost use Rattle.event_mapping.specs.Sized.{are_too_large};
 

@@ -1,16 +1,10 @@
 //! The checks of a description made flat, and its plan and mapping if it keeps them.
 
 ghost use Rattle.std.specs.Prelude.{◌≡◌, ◌≤◌, Err, IfOk, OnOk, Some, false, length, true};
-ghost use Rattle.plan_definitions.specs.Callings.{callings as all_callings};
+ghost use Rattle.plan_definitions.specs.Common.{callings as all_callings, Tells, mapping_text, HaveOrder, are_mapped, mapping_of, plan_of, seen, IsOfLists, IsOfSize, IsRefusal, IsThen};
+ghost use Rattle.plan_definitions.specs.Common.{HasFewParts, HasFewThings, types_fit};
 ghost use Rattle.plan_definitions.specs.Telling.{Tells as Says};
-ghost use Rattle.plan_definitions.specs.MappingRefusals.{Tells, mapping_text};
 ghost use Rattle.plan_definitions.specs.MappingRefusals as rules;
-ghost use Rattle.plan_definitions.specs.MappingRules.{HaveOrder};
-ghost use Rattle.plan_definitions.specs.Tasks.{are_mapped, mapping_of};
-ghost use Rattle.plan_definitions.specs.Planned.{plan_of, seen};
-ghost use Rattle.plan_definitions.specs.PlanRefusals.{IsOfLists, IsOfSize, IsRefusal, IsThen};
-ghost use Rattle.plan_definitions.specs.Sizes.{HasFewParts, HasFewThings};
-ghost use Rattle.plan_definitions.specs.WellFormed.{types_fit};
 ghost use Rattle.event_mapping.specs.Pieces.{ArePieces};
 ghost use Rattle.event_mapping.specs.Sized.{are_too_large};
 

@@ -2,10 +2,10 @@
 
 ghost use Rattle.std.specs.Prelude.{◌≡◌, ◌+◌, ◌-◌, ◌==◌, ◌||◌, IfOk, length, map, slice_get, sum_by};
 ghost use Rattle.std.specs.Option.{unwrap_or};
-ghost use Rattle.plan_definitions.specs.Callings.{operation_count, operations_at};
-ghost use Rattle.plan_definitions.specs.Sites.{count_at, kind_at, provides_at, root_ports};
+ghost use Rattle.plan_definitions.specs.Common.{operation_count, operations_at, count_at, kind_at, provides_at, root_ports};
 ghost use Rattle.event_mapping.specs.Foretold.{IsForetold};
-ghost use Rattle.event_mapping.specs.Guard.{at_most, counted_with, events_of_instance, item_count, items_at, items_in, items_of_ports, outer_points, point_count, points_at, points_in, points_of_runnable};
+ghost use Rattle.event_mapping.specs.Guard.{at_most, counted_with, events_of_instance, item_count, items_at, items_in, items_of_ports, outer_points, point_count, points_at, points_in};
+ghost use Rattle.event_mapping.specs.Guard.{points_of_runnable};
 
 use crate::size::{EVENTS, POINTS, THINGS};
 use description_types::{

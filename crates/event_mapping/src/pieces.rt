@@ -1,12 +1,7 @@
 //! The lists of a plan, piece by piece.
 
 ghost use Rattle.std.specs.Prelude.{◌≡◌, IfOk, map};
-ghost use Rattle.plan_definitions.specs.Mapped.{is_mapped};
-ghost use Rattle.plan_definitions.specs.Parts.{events_of};
-ghost use Rattle.plan_definitions.specs.Callings.{callings as all_callings};
-ghost use Rattle.plan_definitions.specs.Services.{points, servers};
-ghost use Rattle.plan_definitions.specs.Planned.{areas};
-ghost use Rattle.plan_definitions.specs.Started.{events};
+ghost use Rattle.plan_definitions.specs.Common.{is_mapped, events_of, callings as all_callings, points, servers, areas, events};
 ghost use Rattle.event_mapping.specs.Pieces.{AreItems, AreModes, ArePieces, AreServices};
 
 use crate::areas::areas_of_plan;

@@ -1,9 +1,7 @@
 //! How large a plan is.
 
 ghost use Rattle.std.specs.Prelude.{◌≡◌, ◌-◌, ◌==◌, ◌||◌, is_some, length, nat_lt, not, sum_by};
-ghost use Rattle.plan_definitions.specs.Elements.{elem_seen};
-ghost use Rattle.plan_definitions.specs.Planned.{object_count};
-ghost use Rattle.plan_definitions.specs.PlanRules.{is_queued, received, requested};
+ghost use Rattle.plan_definitions.specs.Common.{elem_seen, object_count, is_queued, received, requested};
 ghost use Rattle.event_mapping.specs.Sized.{are_too_large, few_things, queues_of, things_of};
 
 use crate::pieces::Pieces;

@@ -1,13 +1,9 @@
 -- What feeds are given may be called.
 use Rattle.std.proofs.Common.{◌≡◌, ◌<◌, ℕ, ◌-◌, List, [], ◌∷◌, map, Bool, true, false, ◌==◌, ◌&&◌, nat_le, bytes_eq, codes, replicate, if◌then◌else◌, refl, sym, subst}
-use Rattle.std.specs.List.{All}
-use Rattle.std.proofs.lemmas.List.Elements.{All-append, All-cons, All-nil, All-replicate}
-use Rattle.bus_semantics.specs.Plan.{Plan}
-use Rattle.bus_semantics.specs.Spelling.{Letters}
-use Rattle.bus_semantics.specs.Wanted.{Wanted, to_tick, wanted_of}
+use Rattle.bus_semantics.specs.Common.{All, All-nil, Plan, Letters, Wanted, to_tick, wanted_of}
+use Rattle.std.proofs.lemmas.List.Elements.{All-append, All-cons, All-replicate}
 use Rattle.line_fields.specs.Texts.{lines_of}
-use Rattle.script_reading.specs.Meaning.{ticks, a_run, a_call, Saying, nothing, asks, is_bad, saying}
-use Rattle.script_reading.specs.Sentences.{may_call}
+use Rattle.script_reading.specs.Common.{ticks, a_run, a_call, Saying, nothing, asks, is_bad, saying, may_call}
 use Rattle.script_reading.proofs.Asking.{saying_asks}
 use Rattle.feed_queue.specs.declared.feeds.Feeds.{Feeds}
 use Rattle.feed_queue.specs.Gifts.{wishes_at}

@@ -1,15 +1,11 @@
 -- Good stimuli give no more wishes than they may.
-use Rattle.std.proofs.Common.{◌≡◌, ◌≢◌, ◌<◌, ◌≤◌, ◌+◌, ℕ, List, [], ◌∷◌, ◌++◌, map, length, length-append, Bool, true, false, nat_lt, if◌then◌else◌, Option, Some, None, Vec, refl, sym, ap, ◌∙◌, subst, append_assoc, arith, ne_eqb}
+use Rattle.std.proofs.Common.{◌≡◌, ◌≢◌, ◌<◌, ◌≤◌, ◌+◌, ℕ, List, [], ◌∷◌, ◌++◌, map, length, length-append, Bool, true, false, nat_lt, if◌then◌else◌, Option, Some, None, Vec, refl, sym, ap}
+use Rattle.std.proofs.Common.{◌∙◌, subst, append_assoc, arith, ne_eqb}
 use Rattle.std.specs.Prelude.{sum}
-use Rattle.std.specs.Global.{Global}
-use Rattle.std.proofs.lemmas.Bool.{or_parts, ltb-false}
-use Rattle.std.proofs.lemmas.List.{append-nil, length-map}
+use Rattle.bus_semantics.specs.Common.{Global, or_parts, ltb-false, append-nil, length-map, Plan, Letters, Wanted, wanted_of}
 use mathlib.Core.Logic.{dite}
 use native.Mathlib.Decide.{ℕ_discrete}
 use Rattle.bus_semantics.specs.declared.entries.Wish.{Wish}
-use Rattle.bus_semantics.specs.Plan.{Plan}
-use Rattle.bus_semantics.specs.Spelling.{Letters}
-use Rattle.bus_semantics.specs.Wanted.{Wanted, wanted_of}
 use Rattle.line_fields.specs.Texts.{lines_of}
 use Rattle.script_reading.specs.Reading.{bad_or}
 use Rattle.feed_queue.specs.declared.feeds.Feeds.{Feeds}

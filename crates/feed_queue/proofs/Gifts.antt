@@ -1,12 +1,9 @@
 -- How a gift joins the list of its feed.
 use Rattle.std.proofs.Common.{◌≡◌, ◌≢◌, ◌<◌, ℕ, zero, suc, List, [], ◌∷◌, ◌++◌, map, length, get_or, Bool, if◌then◌else◌, Some, Vec, slice_get, slice_set, refl, sym, ap, ◌∙◌, subst, eq-eqb, ne_eqb}
-use Rattle.std.specs.Global.{Global}
-use Rattle.std.proofs.lemmas.List.{append-nil}
-use Rattle.std.proofs.lemmas.Option.{slice_get-get_or}
+use Rattle.bus_semantics.specs.Common.{Global, append-nil, slice_get-get_or, Wanted, wanted_of}
 use mathlib.Core.Logic.{dite}
 use native.Mathlib.Decide.{ℕ_discrete}
 use Rattle.bus_semantics.specs.declared.entries.Wish.{Wish}
-use Rattle.bus_semantics.specs.Wanted.{Wanted, wanted_of}
 use Rattle.feed_queue.specs.Gifts.{wishes_at}
 use Rattle.feed_queue.specs.Stimuli.{gives}
 use Rattle.feed_queue.specs.Reading.{given_to}

@@ -1,11 +1,8 @@
 -- How far reading has come, and what each step of it shows.
-use Rattle.std.proofs.Common.{◌≡◌, ◌<◌, ℕ, ◌+◌, List, [], ◌∷◌, ◌++◌, length, map, Bool, true, false, ◌||◌, if◌then◌else◌, Some, None, Vec, refl, sym, ap, ◌∙◌, subst, append_assoc, length-append, arith}
-use Rattle.std.specs.Global.{Global}
-use Rattle.std.proofs.lemmas.List.{append-nil}
+use Rattle.std.proofs.Common.{◌≡◌, ◌<◌, ℕ, ◌+◌, List, [], ◌∷◌, ◌++◌, length, map, Bool, true, false, ◌||◌, if◌then◌else◌, Some, None, Vec, refl, sym, ap, ◌∙◌, subst, append_assoc}
+use Rattle.std.proofs.Common.{length-append, arith}
+use Rattle.bus_semantics.specs.Common.{Global, append-nil, Plan, Letters, wanted_of}
 use Rattle.bus_semantics.specs.declared.entries.Wish.{Wish}
-use Rattle.bus_semantics.specs.Plan.{Plan}
-use Rattle.bus_semantics.specs.Spelling.{Letters}
-use Rattle.bus_semantics.specs.Wanted.{wanted_of}
 use Rattle.line_fields.specs.Texts.{lines_of}
 use Rattle.script_reading.specs.Meaning.{no_form}
 use Rattle.script_reading.specs.Reading.{bad_or}

@@ -1,7 +1,6 @@
 -- Lists of wishes by feed.
 use Rattle.std.specs.Prelude.{ℕ, List, [], slice_get, Vec}
-use Rattle.std.specs.Global.{Global}
-use Rattle.std.specs.Option.{option_map_or}
+use Rattle.bus_semantics.specs.Common.{Global, option_map_or}
 use Rattle.bus_semantics.specs.declared.entries.Wish.{Wish}
 
 -- the wishes of a feed

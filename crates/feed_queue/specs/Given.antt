@@ -1,9 +1,7 @@
 -- What is said of the wishes of feeds.
 use Rattle.std.specs.Prelude.{ℕ, List, Bool, true, length, map, Vec}
-use Rattle.std.specs.Global.{Global}
+use Rattle.bus_semantics.specs.Common.{Global, Plan, Wanted, to_tick}
 use Rattle.bus_semantics.specs.declared.entries.Wish.{Wish}
-use Rattle.bus_semantics.specs.Plan.{Plan}
-use Rattle.bus_semantics.specs.Wanted.{Wanted, to_tick}
 use Rattle.script_reading.specs.Sentences.{may_call}
 use Rattle.feed_queue.specs.declared.feeds.Feeds.{Feeds}
 

@@ -1,9 +1,6 @@
 -- What stimuli are read as: four lists of wishes, or the first bad line with its least cause.
 use Rattle.std.specs.Prelude.{◌≡◌, ◌<◌, ℕ, ◌+◌, List, [], ◌∷◌, ◌++◌, length, map, flat_map, Bool, true, false, ◌||◌, ◌==◌, nat_lt, if◌then◌else◌, Option, Some, None}
-use Rattle.std.specs.List.{list_any}
-use Rattle.bus_semantics.specs.Plan.{Plan}
-use Rattle.bus_semantics.specs.Spelling.{Letters}
-use Rattle.bus_semantics.specs.Wanted.{Wanted, wanted_of}
+use Rattle.bus_semantics.specs.Common.{list_any, Plan, Letters, Wanted, wanted_of}
 use Rattle.line_fields.specs.Texts.{lines_of}
 use Rattle.script_reading.specs.Meaning.{no_form}
 use Rattle.script_reading.specs.Reading.{bad_or, too_many}

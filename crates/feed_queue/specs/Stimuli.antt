@@ -1,8 +1,6 @@
 -- What a line of stimuli says over a plan. The stimuli are this project's own.
 use Rattle.std.specs.Prelude.{ℕ, ◌-◌, List, [], ◌∷◌, ◌&&◌, ◌==◌, nat_le, bytes_eq, codes, replicate, if◌then◌else◌}
-use Rattle.bus_semantics.specs.Plan.{Plan}
-use Rattle.bus_semantics.specs.Spelling.{Letters}
-use Rattle.bus_semantics.specs.Wanted.{Wanted, to_tick}
+use Rattle.bus_semantics.specs.Common.{Plan, Letters, Wanted, to_tick}
 use Rattle.script_reading.specs.Meaning.{ticks, a_run, a_call, Saying, nothing, asks, is_bad, no_form, saying}
 
 -- nothing, that the stimuli stop, wishes for a feed, or the cause for which the line is bad

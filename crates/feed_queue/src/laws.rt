@@ -1,9 +1,7 @@
 //! Laws of feeds.
 
 ghost use Rattle.std.specs.Prelude.{◌≡◌, ◌<◌, ◌≤◌, ℕ, All, map, sum, true};
-ghost use Rattle.bus_semantics.specs.Plan.{Plan};
-ghost use Rattle.bus_semantics.specs.Spelling.{Letters};
-ghost use Rattle.bus_semantics.specs.Wanted.{wanted_of};
+ghost use Rattle.bus_semantics.specs.Common.{Plan, Letters, wanted_of};
 ghost use Rattle.feed_queue.specs.declared.feeds.Feeds.{Feeds};
 ghost use Rattle.feed_queue.specs.Given.{may_give, lengths_of};
 ghost use Rattle.feed_queue.specs.Gifts.{wishes_at};

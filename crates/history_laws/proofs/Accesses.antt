@@ -1,32 +1,14 @@
 -- What the accesses of a runnable of a sound plan let its statements ask.
 use Rattle.std.proofs.Common.{◌≡◌, ℕ, ◌+◌, ℤ, Bool, true, false, ◌&&◌, ◌||◌, not, ◌==◌, if◌then◌else◌, refl, sym, ◌∙◌, ap, subst, arith, List, length, map, replicate, Option, Some, None}
 use Rattle.std.specs.Prelude.{nat_lt, nat_le}
-use Rattle.std.specs.List.{list_all, list_any, slice_get}
-use Rattle.std.proofs.lemmas.Bool.{and_from, and_parts, or_left, or_right, eqb-true, false≢true}
-use Rattle.std.proofs.lemmas.Bool.Decides.{nat_tests}
-use Rattle.std.proofs.lemmas.List.{length-map}
-use Rattle.rte_value.specs.declared.kinds.Limits.{Limits}
-use Rattle.rte_value.specs.Values.{same_number}
-use Rattle.runnable_lang.specs.declared.program.AccessKind.{AccessKind}
+use Rattle.bus_semantics.specs.Common.{list_all, list_any, slice_get, and_from, and_parts, or_left, or_right, eqb-true, false≢true, nat_tests, length-map, Limits, same_number, AccessKind}
+use Rattle.bus_semantics.specs.Common.{AccessSig, is_at, counts, ExprTree, worth, Plan, Runnable, caller_of, elem_fits, is_writable, is_readable, is_unqueued, is_queued, own_point}
+use Rattle.bus_semantics.specs.Common.{result_point, State, Access, access, given, same_kind, elem_sound, limits_fit, same_limits, is_in, is_variable, access_sound, each_access}
+use Rattle.bus_semantics.specs.Common.{accesses_distinct, areas_rise, rises_to, point_takes, mode_count, points_fit, runnable_sound, IsSound}
 use Rattle.runnable_lang.specs.declared.program.AccessKind.TheVariants as kind
-use Rattle.runnable_lang.specs.declared.program.AccessSig.{AccessSig}
-use Rattle.runnable_lang.specs.Accesses.{is_at, counts, serves}
-use Rattle.runnable_lang.specs.Trees.{ExprTree}
-use Rattle.runnable_lang.specs.Expressions.{worth}
-use Rattle.bus_semantics.specs.declared.plan.ElemPlan.{ElemPlan}
-use Rattle.bus_semantics.specs.declared.plan.ElemKind.{ElemKind}
-use Rattle.bus_semantics.specs.declared.plan.ElemKind.TheVariants.{Unqueued, Queued, Variable}
-use Rattle.bus_semantics.specs.declared.plan.PointPlan.{PointPlan}
-use Rattle.bus_semantics.specs.declared.script.Mapping.{Mapping}
-use Rattle.bus_semantics.specs.Plan.{Plan, Runnable, caller_of}
-use Rattle.bus_semantics.specs.Owners.{elem_fits, is_writable, is_readable, is_unqueued, is_queued, own_point, result_point}
-use Rattle.bus_semantics.specs.State.{State, Access, access, given, same_kind}
-use Rattle.bus_semantics.specs.SoundElements.{elem_sound, limits_fit, same_limits}
-use Rattle.bus_semantics.specs.SoundPlan.{is_in, is_variable}
+use Rattle.runnable_lang.specs.Accesses.{serves}
+use Rattle.bus_laws.specs.Common.{ElemPlan, ElemKind, Unqueued, Queued, Variable, PointPlan, Mapping}
 use Rattle.bus_semantics.specs.SoundAccesses as accesses
-use Rattle.bus_semantics.specs.SoundAccesses.{access_sound, each_access, accesses_distinct, areas_rise, rises_to, point_takes, mode_count, points_fit}
-use Rattle.bus_semantics.specs.SoundPrograms.{runnable_sound}
-use Rattle.bus_semantics.specs.Sound.{IsSound}
 use Rattle.history_laws.specs.Given.{are_within, elem_takes, point_gets}
 use Rattle.history_laws.specs.Wishes.{is_awaited}
 use Rattle.history_laws.specs.LookUps.{sought, looked, looks, all_at, at_place, all_same, any_of}

@@ -1,27 +1,13 @@
 -- The coherent lists of a runnable of a sound plan: who reads or writes their elements, and that elements and lists have bundles.
 use Rattle.std.proofs.Common.{◌≡◌, ℕ, zero, suc, ◌<◌, Bool, true, false, not, ◌&&◌, ◌||◌, ◌==◌, if◌then◌else◌, refl, sym, ◌∙◌, ap, subst, arith, List, [], ◌∷◌, length, Option, Some, None}
 use Rattle.std.specs.Prelude.{nat_lt, nat_le, flat_map, option_and_then}
-use Rattle.std.specs.List.{list_all, list_any, slice_get}
-use Rattle.std.proofs.lemmas.Bool.{and_from, and_parts, eqb-true, ltb-true, false≢true}
-use Rattle.rte_value.specs.Values.{same_number}
-use Rattle.runnable_lang.specs.declared.program.AccessKind.{AccessKind}
+use Rattle.bus_semantics.specs.Common.{list_all, list_any, slice_get, and_from, and_parts, eqb-true, ltb-true, false≢true, same_number, AccessKind, AccessSig, Plan, Runnable, look}
+use Rattle.bus_semantics.specs.Common.{every_from, positions, group_of, elem_fits, is_unqueued, same_kind, elems_of, words_of_all, list_fits, home_of, bundle_of, bundle_of_list}
+use Rattle.bus_semantics.specs.Common.{is_read_early, is_written_late, list_with, is_in, is_variable, is_distinct, same_numbers, access_sound, each_access, accesses_elem, list_kind}
+use Rattle.bus_semantics.specs.Common.{list_sound, IsSound}
 use Rattle.runnable_lang.specs.declared.program.AccessKind.TheVariants as kind
-use Rattle.runnable_lang.specs.declared.program.AccessSig.{AccessSig}
-use Rattle.bus_semantics.specs.declared.plan.ElemPlan.{ElemPlan}
-use Rattle.bus_semantics.specs.declared.plan.ElemKind.{ElemKind}
-use Rattle.bus_semantics.specs.declared.plan.ElemKind.TheVariants.{Unqueued, Queued, Variable}
-use Rattle.bus_semantics.specs.declared.plan.CoherentList.{CoherentList}
-use Rattle.bus_semantics.specs.declared.script.Mapping.{Mapping}
-use Rattle.bus_semantics.specs.Plan.{Plan, Runnable, look, every_from, positions, group_of}
-use Rattle.bus_semantics.specs.Owners.{elem_fits, is_unqueued}
-use Rattle.bus_semantics.specs.State.{same_kind}
-use Rattle.bus_semantics.specs.Lists.{elems_of, words_of_all, list_fits}
-use Rattle.bus_semantics.specs.Bundles.{home_of, bundle_of, bundle_of_list}
-use Rattle.bus_semantics.specs.Activations.{is_read_early, is_written_late, list_with}
-use Rattle.bus_semantics.specs.SoundPlan.{is_in, is_variable, is_distinct, same_numbers}
-use Rattle.bus_semantics.specs.SoundAccesses.{access_sound, each_access, takes_words}
-use Rattle.bus_semantics.specs.SoundLists.{accesses_elem, list_kind, list_sound}
-use Rattle.bus_semantics.specs.Sound.{IsSound}
+use Rattle.bus_laws.specs.Common.{ElemPlan, ElemKind, Unqueued, Queued, Variable, CoherentList, Mapping}
+use Rattle.bus_semantics.specs.SoundAccesses.{takes_words}
 use Rattle.history_laws.specs.LookUps.{sought, looked, looks, all_at, at_place}
 use Rattle.history_laws.proofs.Served.{kind_same, sound_of_kind}
 use Rattle.history_laws.proofs.Asked.{IsListed}

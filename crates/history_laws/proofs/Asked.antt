@@ -1,18 +1,12 @@
 -- What an activation of a runnable may ask after a trail, and what is kept in its state.
 use Rattle.std.proofs.Common.{◌≡◌, ℕ, ◌≤◌, ℤ, Bool, true, false, ◌&&◌, ◌||◌, not, if◌then◌else◌, List, [], ◌∷◌, length, Some, is_some}
 use Rattle.std.specs.Prelude.{nat_lt}
-use Rattle.std.specs.List.{list_all, list_any}
+use Rattle.bus_semantics.specs.Common.{list_all, list_any, AccessSig, Plan, Runnable, disabling_of, Wanted, to_tick, to_start, to_admit, to_fetch, to_write, to_read, to_invalidate}
+use Rattle.bus_semantics.specs.Common.{to_see_updated, to_send, to_receive, to_ask, to_hear, to_take_result, to_return, to_enter, to_leave, to_switch, to_see_mode, to_move_on, to_publish}
+use Rattle.bus_semantics.specs.Common.{to_fetch_all, to_publish_all, to_end, elems_of, marked, marks_fit, list_fits, elem_fits, is_writable, is_readable, is_unqueued, is_queued, own_point}
+use Rattle.bus_semantics.specs.Common.{result_point, area_fits, switch_fits, mode_port_fits, State, same_kind, found_under, code_in, arguments_of, argument_limits, list_sound}
 use Rattle.runnable_lang.specs.declared.program.AccessKind.TheVariants as kind
-use Rattle.runnable_lang.specs.declared.program.AccessSig.{AccessSig}
 use Rattle.bus_semantics.specs.declared.entries.Deed.{Deed}
-use Rattle.bus_semantics.specs.Plan.{Plan, Runnable, disabling_of}
-use Rattle.bus_semantics.specs.Wanted.{Wanted, to_tick, to_start, to_admit, to_fetch, to_write, to_read, to_invalidate, to_see_updated, to_send, to_receive, to_ask, to_hear, to_take_result, to_return, to_enter, to_leave, to_switch, to_see_mode, to_move_on, to_publish, to_fetch_all, to_publish_all, to_end}
-use Rattle.bus_semantics.specs.Lists.{elems_of, marked, marks_fit, list_fits}
-use Rattle.bus_semantics.specs.Owners.{elem_fits, is_writable, is_readable, is_unqueued, is_queued, own_point, result_point, area_fits, switch_fits, mode_port_fits}
-use Rattle.bus_semantics.specs.State.{State, same_kind, found_under, code_in}
-use Rattle.bus_semantics.specs.Activations.{arguments_of}
-use Rattle.bus_semantics.specs.SoundElements.{argument_limits}
-use Rattle.bus_semantics.specs.SoundLists.{list_sound}
 use Rattle.history_laws.specs.OpenAreas.{innermost}
 use Rattle.history_laws.specs.Given.{are_within, elem_takes, elems_take, point_gets}
 use Rattle.history_laws.specs.Wishes.{is_awaited}

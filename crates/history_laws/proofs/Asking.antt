@@ -1,26 +1,12 @@
 -- The laws of what an activation asks.
 use Rattle.std.proofs.Common.{◌≡◌, ℕ, ℤ, true, false, ◌||◌, not, if◌then◌else◌, refl, sym, ◌∙◌, ap, subst, List, [], ◌∷◌, ◌++◌, length, Option, Some, None, is_some}
 use Rattle.std.specs.Prelude.{nat_lt, nat_le, is_none}
-use Rattle.std.specs.List.{list_all}
-use Rattle.std.proofs.lemmas.Bool.{and_from, and_parts, false≢true, true≢false}
-use Rattle.rte_value.specs.declared.kinds.ActKey.{ActKey}
-use Rattle.rte_value.specs.declared.value.Value.{Value}
-use Rattle.rte_value.specs.Values.{words_of}
-use Rattle.bus_semantics.specs.declared.entries.Actor.TheVariants.{Act}
-use Rattle.bus_semantics.specs.declared.entries.Deed.{Deed}
+use Rattle.bus_semantics.specs.Common.{list_all, and_from, and_parts, false≢true, true≢false, ActKey, Value, words_of, Plan, Runnable, queue_of, disabling_of, instance_of, Wanted, to_tick}
+use Rattle.bus_semantics.specs.Common.{to_start, to_admit, to_ask, to_hear, to_return, to_enter, to_leave, to_move_on, to_publish, to_publish_all, to_end, wanted_by, count, is_over}
+use Rattle.bus_semantics.specs.Common.{object_of, served_by, key_fits, serves_directly, activation_may_want, wish_fits, is_start, asks_its_own, State, Outcome, Stop, Go, Running, both}
+use Rattle.bus_semantics.specs.Common.{goes_on, run_program, fetching, publishing, returning, ending, activity, state_at_start, wanted_next, next_of_activity}
+use Rattle.bus_laws.specs.Common.{Act, Deed, Disabling, Mapping}
 use Rattle.bus_semantics.specs.declared.entries.Deed.TheVariants as deed
-use Rattle.bus_semantics.specs.declared.plan.Disabling.{Disabling}
-use Rattle.bus_semantics.specs.declared.script.Mapping.{Mapping}
-use Rattle.bus_semantics.specs.Plan.{Plan, Runnable, queue_of, disabling_of, instance_of}
-use Rattle.bus_semantics.specs.Wanted.{Wanted, to_tick, to_start, to_admit, to_ask, to_hear, to_return, to_enter, to_leave, to_move_on, to_publish, to_publish_all, to_end, wanted_by}
-use Rattle.bus_semantics.specs.History.{count, is_over}
-use Rattle.bus_semantics.specs.Objects.{object_of, served_by}
-use Rattle.bus_semantics.specs.Owners.{key_fits, serves_directly}
-use Rattle.bus_semantics.specs.Fitting.{activation_may_want, wish_fits}
-use Rattle.bus_semantics.specs.Asked.{is_start, asks_its_own}
-use Rattle.bus_semantics.specs.State.{State}
-use Rattle.bus_semantics.specs.Programs.{Outcome, Stop, Go, Running, both, goes_on, run_program}
-use Rattle.bus_semantics.specs.Activations.{fetching, publishing, returning, ending, activity, state_at_start, wanted_next, next_of_activity}
 use Rattle.history_laws.specs.Followed.{IsActivation, Followed, HasJustAsked}
 use Rattle.history_laws.specs.OpenAreas.{open_areas, innermost, all_but_innermost, are_nested, comes_outside}
 use Rattle.history_laws.specs.Given.{gives_what_fits, words_given}

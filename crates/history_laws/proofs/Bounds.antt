@@ -1,30 +1,13 @@
 -- The modes in which a machine of a sound plan stands, and those that are switched to, are modes of it.
 use Rattle.std.proofs.Common.{◌≡◌, ℕ, Bool, true, false, ◌&&◌, ◌==◌, if◌then◌else◌, refl, sym, ◌∙◌, ap, subst, arith, [], ◌∷◌, length, Option, Some, None}
-use Rattle.std.proofs.lemmas.Bool.{and_parts, eqb-true, false≢true}
-use Rattle.std.proofs.lemmas.Bool.Decides.{nat_tests}
-use Rattle.std.proofs.lemmas.Option.{same_Some}
-use Rattle.std.specs.Option.{option_map_or}
-use Rattle.std.specs.List.{slice_get, list_all}
+use Rattle.bus_semantics.specs.Common.{and_parts, eqb-true, false≢true, nat_tests, same_Some, option_map_or, slice_get, list_all, Step, same_number, Plan, instance_of, to_switch, wanted_by}
+use Rattle.bus_semantics.specs.Common.{Noted, Past, needs_event, key_fits, modes_of, switch_fits, wish_fits, activation_fits, answer_fits, phase_fits, fits, phase_in, phase_of, closed_mode}
+use Rattle.bus_semantics.specs.Common.{is_stable_phase, is_stable, next_of, settled_of, initial_of, mode_of, switched_to, accepted_switches, first_unbegun, phase_after, phase_may_come}
+use Rattle.bus_semantics.specs.Common.{starts_its_own, is_proper, is_in, machine_sound, IsPastOf}
 use Rattle.std.specs.Prelude.{nat_lt, nat_le}
-use Rattle.rte_value.specs.declared.kinds.Step.{Step}
 use Rattle.rte_value.specs.declared.kinds.Step.TheVariants as step
-use Rattle.rte_value.specs.Values.{same_number}
-use Rattle.bus_semantics.specs.declared.plan.MachinePlan.{MachinePlan}
-use Rattle.bus_semantics.specs.declared.entries.Actor.{Actor}
-use Rattle.bus_semantics.specs.declared.entries.Actor.TheVariants.{Env, Machine, Act}
-use Rattle.bus_semantics.specs.declared.entries.Deed.{Deed}
+use Rattle.bus_laws.specs.Common.{MachinePlan, Actor, Env, Machine, Act, Deed}
 use Rattle.bus_semantics.specs.declared.entries.Deed.TheVariants as deed
-use Rattle.bus_semantics.specs.Plan.{Plan, instance_of}
-use Rattle.bus_semantics.specs.Wanted.{to_switch, wanted_by}
-use Rattle.bus_semantics.specs.History.{Noted, Past, needs_event}
-use Rattle.bus_semantics.specs.Owners.{key_fits, modes_of, switch_fits}
-use Rattle.bus_semantics.specs.Fitting.{wish_fits, activation_fits, answer_fits, phase_fits, fits}
-use Rattle.bus_semantics.specs.Modes.{phase_in, phase_of, closed_mode, is_stable_phase, is_stable, next_of, settled_of, initial_of, mode_of, switched_to, accepted_switches}
-use Rattle.bus_semantics.specs.Phases.{first_unbegun, phase_after, phase_may_come}
-use Rattle.bus_semantics.specs.Locality.{starts_its_own, is_proper}
-use Rattle.bus_semantics.specs.SoundPlan.{is_in}
-use Rattle.bus_semantics.specs.SoundElements.{machine_sound}
-use Rattle.bus_semantics.specs.Pasts.{IsPastOf}
 use Rattle.bus_laws.proofs.Thinning.{noting, option_same}
 use Rattle.bus_laws.proofs.LocalServers.{answer_part}
 use Rattle.history_laws.specs.LookUps.{all_at}

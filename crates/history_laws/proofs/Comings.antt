@@ -1,43 +1,15 @@
 -- Which wishes have an entry that may come.
 use Rattle.std.proofs.Common.{◌≡◌, ℕ, ℤ, Bool, true, false, ◌&&◌, not, ◌==◌, if◌then◌else◌, refl, sym, ◌∙◌, ap, subst, List, [], length, Option, Some, None, is_some}
-use Rattle.std.proofs.lemmas.Bool.{and_parts, eq-eqb, eqb-true, false≢true}
+use Rattle.bus_semantics.specs.Common.{and_parts, eq-eqb, eqb-true, false≢true, slice_get, option_map_or, ActKey, Step, Value, words_of, same_words, same_number, empty_value, Plan, kind_of}
+use Rattle.bus_semantics.specs.Common.{server_of, instance_of, runnable_of_event, machine_of_port, Wanted, to_admit, to_end, wanted_of, wanted_by, Noted, Past, needs_event, object_of}
+use Rattle.bus_semantics.specs.Common.{touched_by, touches, touched, machine_object, key_fits, event_fits, modes_of, wish_fits, start_fits, activation_fits, answer_fits, elems_of, value_at}
+use Rattle.bus_semantics.specs.Common.{moment_of, read_code, is_updated, send_code, received_at, is_held, ask_code, answer_to, result_of, next_request, is_key_point, is_request, requests_of}
+use Rattle.bus_semantics.specs.Common.{starts_of, has_unstarted, switch_code, mode_at_port, is_disabled, phase_may_come, counts_for, is_due, is_due_kind, Answers, starts_its_own, is_open}
+use Rattle.bus_semantics.specs.Common.{enters_by, serves_by, runs_by, start_matches, matches, event_of, asks_its_own}
 use Rattle.std.specs.Prelude.{is_none, unwrap_or, nat_lt, nat_le}
-use Rattle.std.specs.List.{slice_get}
-use Rattle.std.specs.Option.{option_map_or}
-use Rattle.rte_value.specs.declared.kinds.ActKey.{ActKey}
-use Rattle.rte_value.specs.declared.kinds.Step.{Step}
-use Rattle.rte_value.specs.declared.value.Value.{Value}
-use Rattle.rte_value.specs.Values.{words_of, same_words, same_number}
-use Rattle.rte_value.specs.ShortValues.{empty_value}
-use Rattle.bus_semantics.specs.declared.plan.EventKind.{EventKind}
-use Rattle.bus_semantics.specs.declared.plan.EventKind.TheVariants.{Timing, Init, DataReceived, Invoked, Returns, ModeSwitch, Ack}
-use Rattle.bus_semantics.specs.declared.plan.ModePortPlan.{ModePortPlan}
-use Rattle.bus_semantics.specs.declared.script.Mapping.{Mapping}
-use Rattle.bus_semantics.specs.declared.entries.Actor.{Actor}
-use Rattle.bus_semantics.specs.declared.entries.Actor.TheVariants.{Env, Machine, Act}
-use Rattle.bus_semantics.specs.declared.entries.Deed.{Deed}
+use Rattle.bus_laws.specs.Common.{EventKind, Timing, Init, DataReceived, Invoked, Returns, ModeSwitch, Ack, ModePortPlan, Mapping, Actor, Env, Machine, Act, Deed, Wish}
 use Rattle.bus_semantics.specs.declared.entries.Deed.TheVariants as deed
-use Rattle.bus_semantics.specs.declared.entries.Wish.{Wish}
 use Rattle.bus_semantics.specs.declared.entries.Wish.TheVariants as wish
-use Rattle.bus_semantics.specs.Plan.{Plan, kind_of, server_of, instance_of, runnable_of_event, machine_of_port}
-use Rattle.bus_semantics.specs.Wanted.{Wanted, to_admit, to_end, wanted_of, wanted_by}
-use Rattle.bus_semantics.specs.History.{Noted, Past, needs_event}
-use Rattle.bus_semantics.specs.Objects.{object_of, touched_by, touches, touched, machine_object}
-use Rattle.bus_semantics.specs.Owners.{key_fits, event_fits, modes_of}
-use Rattle.bus_semantics.specs.Fitting.{wish_fits, start_fits, activation_fits, answer_fits}
-use Rattle.bus_semantics.specs.Lists.{elems_of}
-use Rattle.bus_semantics.specs.Unqueued.{value_at, moment_of, read_code, is_updated}
-use Rattle.bus_semantics.specs.Queued.{send_code, received_at}
-use Rattle.bus_semantics.specs.Areas.{is_held}
-use Rattle.bus_semantics.specs.Calls.{ask_code, answer_to, result_of, next_request, is_key_point, is_request, requests_of, starts_of, has_unstarted}
-use Rattle.bus_semantics.specs.Modes.{switch_code, mode_at_port}
-use Rattle.bus_semantics.specs.Admission.{is_disabled}
-use Rattle.bus_semantics.specs.Phases.{phase_may_come}
-use Rattle.bus_semantics.specs.Due.{counts_for, is_due, is_due_kind}
-use Rattle.bus_semantics.specs.Legal.{Answers}
-use Rattle.bus_semantics.specs.Locality.{starts_its_own}
-use Rattle.bus_semantics.specs.Matching.{is_open, enters_by, serves_by, runs_by, start_matches, matches}
-use Rattle.bus_semantics.specs.Asked.{event_of, asks_its_own}
 use Rattle.bus_laws.proofs.Thinning.{noting, option_same, same_list, same_flag, same_test}
 use Rattle.history_laws.specs.Coming.{IsAsked, Comes, may_be_held}
 use Rattle.history_laws.proofs.Moments.{moment_words}

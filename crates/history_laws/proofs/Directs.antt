@@ -1,38 +1,14 @@
 -- A request of a direct server starts right after the caller's ask, and is served until it is returned.
-use Rattle.std.proofs.Common.{◌≡◌, ℕ, zero, suc, ◌<◌, ℤ, Bool, true, false, ◌&&◌, ◌||◌, not, ◌==◌, if◌then◌else◌, refl, sym, ◌∙◌, ap, subst, arith, List, [], ◌∷◌, ◌++◌, length, Option, Some, None, is_some}
-use Rattle.std.proofs.lemmas.Bool.{and_parts, eq-eqb, eqb-true, ltb-true, false≢true}
-use Rattle.std.proofs.lemmas.Bool.Decides.{nat_tests}
-use Rattle.std.proofs.lemmas.Option.{same_Some}
+use Rattle.std.proofs.Common.{◌≡◌, ℕ, zero, suc, ◌<◌, ℤ, Bool, true, false, ◌&&◌, ◌||◌, not, ◌==◌, if◌then◌else◌, refl, sym, ◌∙◌, ap, subst, arith, List, [], ◌∷◌, ◌++◌, length, Option, Some}
+use Rattle.std.proofs.Common.{None, is_some}
+use Rattle.bus_semantics.specs.Common.{and_parts, eq-eqb, eqb-true, ltb-true, false≢true, nat_tests, same_Some, slice_get, list_all, ActKey, Value, words_of, same_number, same_key}
+use Rattle.bus_semantics.specs.Common.{same_key-Decides, Plan, server_of, queue_of, caller_of, kind_of, runnable_of_event, wanted_by, History, noted, note, is_of, is_end, is_over, runs}
+use Rattle.bus_semantics.specs.Common.{served_by, serves_directly, key_fits, own_point, start_fits, is_request_at, requests_of, is_start_of, starts_of, serves, is_key_point, has_unstarted}
+use Rattle.bus_semantics.specs.Common.{counts_for, is_due_kind, direct_key, accepted_point, asked_last, ended_since, is_held_back, caller_has_asked, starts_or_goes_on, follows_program}
+use Rattle.bus_semantics.specs.Common.{is_open, serves_by, plain_key, is_proper, MayFollow, IsLegal, direct_sound, IsSound}
 use Rattle.std.specs.Prelude.{nat_lt}
-use Rattle.std.specs.List.{slice_get, list_all}
-use Rattle.rte_value.specs.declared.kinds.ActKey.{ActKey}
-use Rattle.rte_value.specs.declared.value.Value.{Value}
-use Rattle.rte_value.specs.Values.{words_of, same_number, same_key}
-use Rattle.rte_value.specs.EqualKeys.{same_key-Decides}
-use Rattle.bus_semantics.specs.declared.plan.PointPlan.{PointPlan}
-use Rattle.bus_semantics.specs.declared.plan.ServerPlan.{ServerPlan}
-use Rattle.bus_semantics.specs.declared.plan.EventKind.TheVariants.{Invoked}
-use Rattle.bus_semantics.specs.declared.script.Mapping.{Mapping}
-use Rattle.bus_semantics.specs.declared.entries.Actor.{Actor}
-use Rattle.bus_semantics.specs.declared.entries.Actor.TheVariants.{Env, Machine, Act}
-use Rattle.bus_semantics.specs.declared.entries.Deed.{Deed}
+use Rattle.bus_laws.specs.Common.{PointPlan, ServerPlan, Invoked, Mapping, Actor, Env, Machine, Act, Deed, Entry}
 use Rattle.bus_semantics.specs.declared.entries.Deed.TheVariants as deed
-use Rattle.bus_semantics.specs.declared.entries.Entry.{Entry}
-use Rattle.bus_semantics.specs.Plan.{Plan, server_of, queue_of, caller_of, kind_of, runnable_of_event}
-use Rattle.bus_semantics.specs.Wanted.{wanted_by}
-use Rattle.bus_semantics.specs.History.{History, noted, note, is_of, is_end, is_over, runs}
-use Rattle.bus_semantics.specs.Objects.{served_by}
-use Rattle.bus_semantics.specs.Owners.{serves_directly, key_fits, own_point}
-use Rattle.bus_semantics.specs.Fitting.{start_fits}
-use Rattle.bus_semantics.specs.Calls.{is_request_at, requests_of, is_start_of, starts_of, serves, is_key_point, has_unstarted}
-use Rattle.bus_semantics.specs.Due.{counts_for, is_due_kind}
-use Rattle.bus_semantics.specs.Actor.{direct_key, accepted_point, asked_last, ended_since, is_held_back, caller_has_asked, starts_or_goes_on, follows_program}
-use Rattle.bus_semantics.specs.Matching.{is_open, serves_by}
-use Rattle.bus_semantics.specs.Rest.{plain_key}
-use Rattle.bus_semantics.specs.Locality.{is_proper}
-use Rattle.bus_semantics.specs.Legal.{MayFollow, IsLegal}
-use Rattle.bus_semantics.specs.SoundEvents.{direct_sound}
-use Rattle.bus_semantics.specs.Sound.{IsSound}
 use Rattle.history_laws.specs.LookUps.{looked, all_at, at_place}
 use Rattle.history_laws.proofs.Asking.{calls_none}
 use Rattle.bus_laws.proofs.Thinning.{clash, option_same, sought_where}

@@ -1,25 +1,11 @@
 -- No admitted activation runs whose event is disabled: by the machine's next mode, or by its settled one.
 use Rattle.std.proofs.Common.{◌≡◌, ℕ, suc, Bool, true, false, ◌||◌, not, ◌==◌, if◌then◌else◌, refl, sym, ◌∙◌, ap, subst, arith, [], ◌∷◌, Option, Some, None}
-use Rattle.std.proofs.lemmas.Bool.{and_parts, or_left, or_right, eqb-true, false≢true}
-use Rattle.std.proofs.lemmas.Option.{same_Some}
-use Rattle.std.specs.List.{slice_get}
-use Rattle.std.specs.Option.{option_map_or}
-use Rattle.rte_value.specs.declared.kinds.Step.{Step}
+use Rattle.bus_semantics.specs.Common.{and_parts, or_left, or_right, eqb-true, false≢true, same_Some, slice_get, option_map_or, Step, same_number, Plan, disabling_of, disabler_of, History}
+use Rattle.bus_semantics.specs.Common.{Noted, Past, noted, note, phase_of, stage_of, waits_of, closes_of, is_close, is_stable, is_stable_phase, initial_of, next_of, settled_of, disables}
+use Rattle.bus_semantics.specs.Common.{admitted_runs, mode_disables, none_runs_disabled, is_disabled_by, is_disabled, phase_after, modes_allow, admission_allows, IsLegal}
 use Rattle.rte_value.specs.declared.kinds.Step.TheVariants as step
-use Rattle.rte_value.specs.Values.{same_number}
-use Rattle.bus_semantics.specs.declared.plan.EventPlan.{EventPlan}
-use Rattle.bus_semantics.specs.declared.plan.Disabling.{Disabling}
-use Rattle.bus_semantics.specs.declared.entries.Actor.{Actor}
-use Rattle.bus_semantics.specs.declared.entries.Actor.TheVariants.{Env, Machine, Act}
-use Rattle.bus_semantics.specs.declared.entries.Deed.{Deed}
+use Rattle.bus_laws.specs.Common.{EventPlan, Disabling, Actor, Env, Machine, Act, Deed}
 use Rattle.bus_semantics.specs.declared.entries.Deed.TheVariants as deed
-use Rattle.bus_semantics.specs.Plan.{Plan, disabling_of}
-use Rattle.bus_semantics.specs.Objects.{disabler_of}
-use Rattle.bus_semantics.specs.History.{History, Noted, Past, noted, note}
-use Rattle.bus_semantics.specs.Modes.{phase_of, stage_of, waits_of, closes_of, is_close, is_stable, is_stable_phase, initial_of, next_of, settled_of}
-use Rattle.bus_semantics.specs.Admission.{disables, admitted_runs, mode_disables, none_runs_disabled, is_disabled_by, is_disabled}
-use Rattle.bus_semantics.specs.Phases.{phase_after}
-use Rattle.bus_semantics.specs.Legal.{modes_allow, admission_allows, IsLegal}
 use Rattle.bus_laws.proofs.Thinning.{noting, option_same, every_at}
 
 module _ (p : Plan) (m : ℕ) where

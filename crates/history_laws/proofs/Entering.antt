@@ -1,19 +1,11 @@
 -- What the accesses to areas, machines and mode ports let the statements of a runnable ask.
 use Rattle.std.proofs.Common.{◌≡◌, ℕ, ◌⊎◌, inl, inr, Bool, true, ◌&&◌, not, ◌==◌, sym, ◌∙◌, ap, subst, [], length, Some, None}
 use Rattle.std.specs.Prelude.{nat_lt}
-use Rattle.std.specs.List.{list_any, slice_get}
-use Rattle.std.proofs.lemmas.Bool.{and_from, and_parts, or_cases, eqb-true, false≢true}
-use Rattle.rte_value.specs.Values.{same_number}
+use Rattle.bus_semantics.specs.Common.{list_any, slice_get, and_from, and_parts, or_cases, eqb-true, false≢true, same_number, AccessSig, is_at, serves_switch, Plan, Runnable, area_fits}
+use Rattle.bus_semantics.specs.Common.{modes_of, switch_fits, mode_port_fits, access, is_to, same_kind, access_sound, each_access, rises_to, IsSound}
 use Rattle.runnable_lang.specs.declared.program.AccessKind.TheVariants as kind
-use Rattle.runnable_lang.specs.declared.program.AccessSig.{AccessSig}
-use Rattle.runnable_lang.specs.Accesses.{is_at, serves, serves_switch}
-use Rattle.bus_semantics.specs.declared.plan.MachinePlan.{MachinePlan}
-use Rattle.bus_semantics.specs.declared.script.Mapping.{Mapping}
-use Rattle.bus_semantics.specs.Plan.{Plan, Runnable}
-use Rattle.bus_semantics.specs.Owners.{area_fits, modes_of, switch_fits, mode_port_fits}
-use Rattle.bus_semantics.specs.State.{access, is_to, same_kind}
-use Rattle.bus_semantics.specs.SoundAccesses.{access_sound, each_access, rises_to}
-use Rattle.bus_semantics.specs.Sound.{IsSound}
+use Rattle.runnable_lang.specs.Accesses.{serves}
+use Rattle.bus_laws.specs.Common.{MachinePlan, Mapping}
 use Rattle.history_laws.specs.LookUps.{sought, looked, looks}
 use Rattle.history_laws.proofs.Served.{served, sound_of_kind, of_serves, kind_same, any_sound}
 use Rattle.history_laws.proofs.Accesses.{accesses_sound, distinct, rising, target}

@@ -1,28 +1,11 @@
 -- What a sound plan says of events, of keys, and of the numbers of what events wait for.
 use Rattle.std.proofs.Common.{◌≡◌, ℕ, ◌+◌, ◌<◌, Bool, true, false, ◌&&◌, ◌||◌, ◌==◌, refl, sym, ◌∙◌, ap, subst, arith, List, [], ◌∷◌, length, Option, Some, None}
-use Rattle.std.proofs.lemmas.Bool.{and_parts, eqb-true, ltb-true, false≢true}
-use Rattle.std.proofs.lemmas.Option.{same_Some}
-use Rattle.std.proofs.lemmas.Bool.Decides.{nat_tests}
+use Rattle.bus_semantics.specs.Common.{and_parts, eqb-true, ltb-true, false≢true, same_Some, nat_tests, list_all, list_any, slice_get, option_map_or, ActKey, same_number, Plan, every_from}
+use Rattle.bus_semantics.specs.Common.{group_of, server_of, kind_of, disabling_of, runnable_of_event, instance_of, home_of, bundle_of, first_server, first_machine, clock, object_of_kind}
+use Rattle.bus_semantics.specs.Common.{server_object, disabler_of, owing, machine_of_event, served_by, serves_directly, key_fits, limits_fit, kind_sound, requires_machine, may_be_disabled}
+use Rattle.bus_semantics.specs.Common.{disabling_sound, event_sound, IsSound}
 use Rattle.std.specs.Prelude.{nat_lt, nat_le, option_map, option_and_then}
-use Rattle.std.specs.List.{list_all, list_any, slice_get}
-use Rattle.std.specs.Option.{option_map_or}
-use Rattle.rte_value.specs.declared.kinds.ActKey.{ActKey}
-use Rattle.rte_value.specs.Values.{same_number}
-use Rattle.bus_semantics.specs.declared.plan.PointPlan.{PointPlan}
-use Rattle.bus_semantics.specs.declared.plan.ModePortPlan.{ModePortPlan}
-use Rattle.bus_semantics.specs.declared.plan.EventPlan.{EventPlan}
-use Rattle.bus_semantics.specs.declared.plan.EventKind.{EventKind}
-use Rattle.bus_semantics.specs.declared.plan.EventKind.TheVariants.{Timing, Init, DataReceived, Invoked, Returns, ModeSwitch, Ack}
-use Rattle.bus_semantics.specs.declared.plan.Disabling.{Disabling}
-use Rattle.bus_semantics.specs.declared.script.Mapping.{Mapping}
-use Rattle.bus_semantics.specs.declared.entries.Actor.TheVariants.{Act}
-use Rattle.bus_semantics.specs.Plan.{Plan, every_from, group_of, server_of, kind_of, disabling_of, runnable_of_event, instance_of}
-use Rattle.bus_semantics.specs.Bundles.{home_of, bundle_of}
-use Rattle.bus_semantics.specs.Objects.{first_server, first_machine, clock, object_of_kind, server_object, disabler_of, owing, machine_of_event, served_by}
-use Rattle.bus_semantics.specs.Owners.{serves_directly, key_fits}
-use Rattle.bus_semantics.specs.SoundElements.{limits_fit}
-use Rattle.bus_semantics.specs.SoundEvents.{kind_sound, requires_machine, may_be_disabled, disabling_sound, event_sound}
-use Rattle.bus_semantics.specs.Sound.{IsSound}
+use Rattle.bus_laws.specs.Common.{PointPlan, ModePortPlan, EventPlan, EventKind, Timing, Init, DataReceived, Invoked, Returns, ModeSwitch, Ack, Disabling, Mapping, Act}
 use Rattle.history_laws.specs.LookUps.{sought, all_at, at_place}
 use Rattle.bus_laws.proofs.OneEvent.{serves_invoked, kind_at}
 

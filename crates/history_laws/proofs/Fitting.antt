@@ -1,36 +1,15 @@
 -- What may be asked fits, touches an object, and gives short values.
-use Rattle.std.proofs.Common.{◌≡◌, ℕ, ◌+◌, ◌<◌, ◌≤◌, ℤ, Bool, true, false, ◌&&◌, ◌||◌, not, ◌==◌, refl, sym, ◌∙◌, ap, subst, arith, List, [], ◌∷◌, length, replicate, Option, Some, None, is_some, zero, suc, option_map}
+use Rattle.std.proofs.Common.{◌≡◌, ℕ, ◌+◌, ◌<◌, ◌≤◌, ℤ, Bool, true, false, ◌&&◌, ◌||◌, not, ◌==◌, refl, sym, ◌∙◌, ap, subst, arith, List, [], ◌∷◌, length, replicate, Option, Some, None}
+use Rattle.std.proofs.Common.{is_some, zero, suc, option_map}
 use Rattle.std.specs.Prelude.{nat_lt, nat_le, flat_map}
-use Rattle.std.specs.List.{list_all, list_any, slice_get}
-use Rattle.std.proofs.lemmas.Bool.{and_from, and_parts, eq-eqb, eqb-true, false≢true, true≢false, ltb-true, leb-true, le-leb, not-true}
-use Rattle.std.proofs.lemmas.Bool.Decides.{nat_tests}
-use Rattle.std.proofs.lemmas.List.{length-replicate}
-use Rattle.rte_value.specs.declared.kinds.ActKey.{ActKey}
-use Rattle.rte_value.specs.Values.{same_number}
-use Rattle.rte_value.specs.EqualKeys.{same_number-Decides}
-use Rattle.runnable_lang.specs.declared.program.AccessSig.{AccessSig}
-use Rattle.bus_semantics.specs.declared.entries.Actor.TheVariants.{Act}
-use Rattle.bus_semantics.specs.declared.plan.ElemPlan.{ElemPlan}
-use Rattle.bus_semantics.specs.declared.plan.PointPlan.{PointPlan}
-use Rattle.bus_semantics.specs.declared.plan.ServerPlan.{ServerPlan}
-use Rattle.bus_semantics.specs.declared.plan.ModePortPlan.{ModePortPlan}
-use Rattle.bus_semantics.specs.declared.plan.EventPlan.{EventPlan}
-use Rattle.bus_semantics.specs.declared.plan.Disabling.{Disabling}
-use Rattle.bus_semantics.specs.declared.script.Mapping.{Mapping}
-use Rattle.bus_semantics.specs.Plan.{Plan, Runnable, look, queue_of, disabling_of, runnable_of_event, instance_of, machine_of_port}
-use Rattle.bus_semantics.specs.Wanted.{Wanted, to_tick, to_start, to_admit, to_fetch, to_write, to_read, to_invalidate, to_see_updated, to_send, to_receive, to_ask, to_hear, to_take_result, to_return, to_enter, to_leave, to_switch, to_see_mode, to_move_on, to_publish, to_fetch_all, to_publish_all, to_end}
-use Rattle.bus_semantics.specs.Lists.{elems_of, words_of_all, marked, marks_fit, list_fits}
-use Rattle.bus_semantics.specs.Bundles.{bundle_of}
-use Rattle.bus_semantics.specs.Objects.{machine_object, first_server, first_machine, disabler_of, served_by, object_of}
-use Rattle.bus_semantics.specs.Owners.{elem_fits, is_writable, is_readable, is_unqueued, is_queued, holds, event_fits}
-use Rattle.bus_semantics.specs.Fitting.{activation_may_want}
-use Rattle.bus_semantics.specs.Asked.{is_start, asks_its_own}
-use Rattle.bus_semantics.specs.Activations.{arguments_of}
-use Rattle.bus_semantics.specs.SoundPlan.{is_in}
-use Rattle.bus_semantics.specs.SoundElements.{argument_limits}
-use Rattle.bus_semantics.specs.SoundEvents.{direct_sound}
-use Rattle.bus_semantics.specs.SoundLists.{list_sound}
-use Rattle.bus_semantics.specs.Sound.{IsSound}
+use Rattle.bus_semantics.specs.Common.{list_all, list_any, slice_get, and_from, and_parts, eq-eqb, eqb-true, false≢true, true≢false, ltb-true, leb-true, le-leb, not-true, nat_tests}
+use Rattle.bus_semantics.specs.Common.{length-replicate, ActKey, same_number, same_number-Decides, AccessSig, Plan, Runnable, look, queue_of, disabling_of, runnable_of_event, instance_of}
+use Rattle.bus_semantics.specs.Common.{machine_of_port, Wanted, to_tick, to_start, to_admit, to_fetch, to_write, to_read, to_invalidate, to_see_updated, to_send, to_receive, to_ask, to_hear}
+use Rattle.bus_semantics.specs.Common.{to_take_result, to_return, to_enter, to_leave, to_switch, to_see_mode, to_move_on, to_publish, to_fetch_all, to_publish_all, to_end, elems_of}
+use Rattle.bus_semantics.specs.Common.{words_of_all, marked, marks_fit, list_fits, bundle_of, machine_object, first_server, first_machine, disabler_of, served_by, object_of, elem_fits}
+use Rattle.bus_semantics.specs.Common.{is_writable, is_readable, is_unqueued, is_queued, holds, event_fits, activation_may_want, is_start, asks_its_own, arguments_of, is_in, argument_limits}
+use Rattle.bus_semantics.specs.Common.{direct_sound, list_sound, IsSound}
+use Rattle.bus_laws.specs.Common.{Act, ElemPlan, PointPlan, ServerPlan, ModePortPlan, EventPlan, Disabling, Mapping}
 use Rattle.history_laws.specs.Given.{are_within, elem_takes, limits_at, elems_take, point_gets, gives_what_fits, words_given}
 use Rattle.history_laws.specs.Wishes.{is_of_a_call, is_the_end}
 use Rattle.history_laws.specs.LookUps.{clash, sought, looked, at_place, none_of}

@@ -1,11 +1,7 @@
 -- A running activation goes on: it has a next wish, which fits.
 use Rattle.std.proofs.Common.{◌≡◌, true, ◌∙◌}
-use Rattle.rte_value.specs.declared.kinds.ActKey.{ActKey}
+use Rattle.bus_semantics.specs.Common.{ActKey, Plan, History, runs, IsLegal, IsSound}
 use Rattle.bus_semantics.specs.declared.script.Mapping.{Mapping}
-use Rattle.bus_semantics.specs.Plan.{Plan}
-use Rattle.bus_semantics.specs.History.{History, runs}
-use Rattle.bus_semantics.specs.Legal.{IsLegal}
-use Rattle.bus_semantics.specs.Sound.{IsSound}
 use Rattle.history_laws.specs.Followed.{IsActivation}
 use Rattle.history_laws.proofs.Asking.{goes_on_asking, fits, own}
 use Rattle.history_laws.specs.Running.{GoesOn}

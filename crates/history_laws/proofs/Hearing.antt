@@ -1,27 +1,11 @@
 -- Who wants to hear an answer asked last, and its request is outstanding.
 use Rattle.std.proofs.Common.{◌≡◌, ℕ, zero, suc, Bool, true, false, ◌&&◌, ◌||◌, not, ◌==◌, refl, sym, ◌∙◌, ap, subst, List, [], ◌∷◌, ◌++◌, length, Option, Some, None}
-use Rattle.std.proofs.lemmas.Bool.{and_parts, or_left, eq-eqb, eqb-true, false≢true}
-use Rattle.std.proofs.lemmas.Option.{same_Some}
+use Rattle.bus_semantics.specs.Common.{and_parts, or_left, eq-eqb, eqb-true, false≢true, same_Some, ActKey, same_number, same_key, same_key-Decides, Plan, caller_of, instance_of, Wanted}
+use Rattle.bus_semantics.specs.Common.{to_hear, wanted_by, History, noted, is_of, runs, serves_directly, key_fits, own_point, result_point, next_of_activity, Activation, with_deed}
+use Rattle.bus_semantics.specs.Common.{activation_of, next_wish, accepted_point, last_deed, asked_last, is_request_at, takes_reply_at, is_outstanding, MayFollow, IsLegal, IsSound}
 use Rattle.std.specs.Prelude.{nat_lt}
-use Rattle.rte_value.specs.declared.kinds.ActKey.{ActKey}
-use Rattle.rte_value.specs.Values.{same_number, same_key}
-use Rattle.rte_value.specs.EqualKeys.{same_key-Decides}
-use Rattle.bus_semantics.specs.declared.plan.PointPlan.{PointPlan}
-use Rattle.bus_semantics.specs.declared.script.Mapping.{Mapping}
-use Rattle.bus_semantics.specs.declared.entries.Actor.{Actor}
-use Rattle.bus_semantics.specs.declared.entries.Actor.TheVariants.{Env, Machine, Act}
-use Rattle.bus_semantics.specs.declared.entries.Deed.{Deed}
+use Rattle.bus_laws.specs.Common.{PointPlan, Mapping, Actor, Env, Machine, Act, Deed, Entry}
 use Rattle.bus_semantics.specs.declared.entries.Deed.TheVariants as deed
-use Rattle.bus_semantics.specs.declared.entries.Entry.{Entry}
-use Rattle.bus_semantics.specs.Plan.{Plan, caller_of, instance_of}
-use Rattle.bus_semantics.specs.Wanted.{Wanted, to_hear, wanted_by}
-use Rattle.bus_semantics.specs.History.{History, noted, is_of, runs}
-use Rattle.bus_semantics.specs.Owners.{serves_directly, key_fits, own_point, result_point}
-use Rattle.bus_semantics.specs.Activations.{next_of_activity}
-use Rattle.bus_semantics.specs.Actor.{Activation, with_deed, activation_of, next_wish, accepted_point, last_deed, asked_last}
-use Rattle.bus_semantics.specs.Calls.{is_request_at, takes_reply_at, is_outstanding}
-use Rattle.bus_semantics.specs.Legal.{MayFollow, IsLegal}
-use Rattle.bus_semantics.specs.Sound.{IsSound}
 use Rattle.history_laws.specs.LookUps.{sought}
 use Rattle.history_laws.specs.Wishes.{is_of_a_call, is_awaited}
 use Rattle.history_laws.proofs.Asking.{fits, calls_none, accepted, awaited}

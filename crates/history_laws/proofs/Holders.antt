@@ -1,25 +1,10 @@
 -- An area is held exactly where one running activation is inside.
 use Rattle.std.proofs.Common.{◌≡◌, ℕ, suc, ◌+◌, Bool, true, false, ◌&&◌, ◌||◌, not, ◌==◌, if◌then◌else◌, refl, sym, ◌∙◌, ap, subst, arith, List, [], ◌∷◌, length, Option, Some}
-use Rattle.std.proofs.lemmas.Bool.{and_parts, eq-eqb, eqb-true, false≢true, or_left}
-use Rattle.std.proofs.lemmas.Bool.Decides.{nat_tests}
-use Rattle.std.proofs.lemmas.Option.{same_Some}
+use Rattle.bus_semantics.specs.Common.{and_parts, eq-eqb, eqb-true, false≢true, or_left, nat_tests, same_Some, list_any, list_all, ActKey, same_key, Plan, History, Noted, noted, note}
+use Rattle.bus_semantics.specs.Common.{newest, count, is_of, runs, enters, leaves, is_held, first_area, touches, entries_of, is_open, enters_by, MayFollow, IsLegal, IsSound}
 use Rattle.std.specs.Prelude.{nat_lt, unwrap_or}
-use Rattle.std.specs.List.{list_any, list_all}
-use Rattle.rte_value.specs.declared.kinds.ActKey.{ActKey}
-use Rattle.rte_value.specs.Values.{same_key}
-use Rattle.bus_semantics.specs.declared.script.Mapping.{Mapping}
-use Rattle.bus_semantics.specs.declared.entries.Actor.{Actor}
-use Rattle.bus_semantics.specs.declared.entries.Actor.TheVariants.{Env, Machine, Act}
-use Rattle.bus_semantics.specs.declared.entries.Deed.{Deed}
+use Rattle.bus_laws.specs.Common.{Mapping, Actor, Env, Machine, Act, Deed, Entry}
 use Rattle.bus_semantics.specs.declared.entries.Deed.TheVariants as deed
-use Rattle.bus_semantics.specs.declared.entries.Entry.{Entry}
-use Rattle.bus_semantics.specs.Plan.{Plan}
-use Rattle.bus_semantics.specs.History.{History, Noted, noted, note, newest, count, is_of, runs}
-use Rattle.bus_semantics.specs.Areas.{enters, leaves, is_held}
-use Rattle.bus_semantics.specs.Objects.{first_area, touches, entries_of}
-use Rattle.bus_semantics.specs.Matching.{is_open, enters_by}
-use Rattle.bus_semantics.specs.Legal.{MayFollow, IsLegal}
-use Rattle.bus_semantics.specs.Sound.{IsSound}
 use Rattle.history_laws.specs.OpenAreas.{all_but_innermost, open_after, innermost, are_nested}
 use Rattle.bus_laws.proofs.Thinning.{clash, not_same}
 use Rattle.history_laws.specs.Running.{areas_of}

@@ -1,27 +1,13 @@
 -- What an entry is to a key: another's, the start of its activation, or what its activation asked next.
 use Rattle.std.proofs.Common.{◌≡◌, ℕ, Bool, true, false, ◌&&◌, not, if◌then◌else◌, refl, sym, ◌∙◌, ap, subst, [], ◌∷◌, ◌++◌, Option, Some, None}
-use Rattle.std.proofs.lemmas.Bool.{and_parts, ltb-true, false≢true, not-true}
-use Rattle.std.specs.Option.{option_or}
+use Rattle.bus_semantics.specs.Common.{and_parts, ltb-true, false≢true, not-true, option_or, slice_get, list_all, ActKey, Value, words_of, same_number, same_key, same_key-Decides, Plan}
+use Rattle.bus_semantics.specs.Common.{Runnable, runnable_of_event, instance_of, Wanted, wanted_by, History, is_of, made_by, is_over, event_started, runs, last_started, needs_event}
+use Rattle.bus_semantics.specs.Common.{key_fits, activation_may_want, answer_fits, fits, next_of_activity, Activation, with_deed, activation_of, next_wish, caller_has_asked, may_start}
+use Rattle.bus_semantics.specs.Common.{is_wanted_next, is_held_back, starts_or_goes_on, follows_program, MayFollow, IsLegal}
 use Rattle.std.specs.Prelude.{nat_lt, length, unwrap_or}
-use Rattle.std.specs.List.{slice_get, list_all}
-use Rattle.rte_value.specs.declared.kinds.ActKey.{ActKey}
-use Rattle.rte_value.specs.declared.value.Value.{Value}
-use Rattle.rte_value.specs.Values.{words_of, same_number, same_key}
-use Rattle.rte_value.specs.EqualKeys.{same_key-Decides}
-use Rattle.bus_semantics.specs.declared.entries.Actor.{Actor}
-use Rattle.bus_semantics.specs.declared.entries.Actor.TheVariants.{Env, Machine, Act}
-use Rattle.bus_semantics.specs.declared.entries.Deed.{Deed}
+use Rattle.bus_laws.specs.Common.{Actor, Env, Machine, Act, Deed, Entry}
 use Rattle.bus_semantics.specs.declared.entries.Deed.TheVariants as deed
-use Rattle.bus_semantics.specs.declared.entries.Entry.{Entry}
-use Rattle.bus_semantics.specs.Plan.{Plan, Runnable, runnable_of_event, instance_of}
 use Rattle.bus_semantics.proofs.SameWanted.{same_wish}
-use Rattle.bus_semantics.specs.Wanted.{Wanted, wanted_by}
-use Rattle.bus_semantics.specs.History.{History, is_of, made_by, is_over, event_started, runs, last_started, needs_event}
-use Rattle.bus_semantics.specs.Owners.{key_fits}
-use Rattle.bus_semantics.specs.Fitting.{activation_may_want, answer_fits, fits}
-use Rattle.bus_semantics.specs.Activations.{next_of_activity}
-use Rattle.bus_semantics.specs.Actor.{Activation, with_deed, activation_of, next_wish, caller_has_asked, may_start, is_wanted_next, is_held_back, starts_or_goes_on, follows_program}
-use Rattle.bus_semantics.specs.Legal.{MayFollow, IsLegal}
 use Rattle.history_laws.specs.Followed.{Followed}
 use Rattle.history_laws.specs.Following.{followed_none, followed_more}
 use Rattle.history_laws.specs.LookUps.{looked}

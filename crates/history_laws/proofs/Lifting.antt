@@ -1,27 +1,13 @@
 -- What may come after the entries of an object may follow the whole history.
 use Rattle.std.proofs.Common.{◌≡◌, ℕ, Bool, true, false, ◌&&◌, not, if◌then◌else◌, refl, sym, ◌∙◌, ap, subst, Option, Some, None}
-use Rattle.std.proofs.lemmas.Bool.{and_from, and_parts, eq-eqb, false≢true, not-true}
+use Rattle.bus_semantics.specs.Common.{and_from, and_parts, eq-eqb, false≢true, not-true, ActKey, same_number, Plan, kind_of, runnable_of_event, Wanted, to_start, wanted_by, History, Noted}
+use Rattle.bus_semantics.specs.Common.{Past, noted, note, needs_event, started_before, runs, last_started, object_of, touched, touched_by, touches, entries_of, key_fits, fits, next_wish}
+use Rattle.bus_semantics.specs.Common.{is_this, may_start, caller_has_asked, is_held_back, starts_or_goes_on, follows_program, starts_its_own, is_proper, SameAnswers, start_matches, matches}
+use Rattle.bus_semantics.specs.Common.{admission_allows, Answers, MayFollow, IsLegal, MayCome, IsSound}
 use Rattle.std.specs.Prelude.{unwrap_or}
-use Rattle.rte_value.specs.declared.kinds.ActKey.{ActKey}
-use Rattle.rte_value.specs.Values.{same_number}
-use Rattle.bus_semantics.specs.declared.script.Mapping.{Mapping}
-use Rattle.bus_semantics.specs.declared.entries.Actor.{Actor}
-use Rattle.bus_semantics.specs.declared.entries.Actor.TheVariants.{Act}
-use Rattle.bus_semantics.specs.declared.entries.Deed.{Deed}
+use Rattle.bus_laws.specs.Common.{Mapping, Actor, Act, Deed}
 use Rattle.bus_semantics.specs.declared.entries.Deed.TheVariants as deed
-use Rattle.bus_semantics.specs.Plan.{Plan, kind_of, runnable_of_event}
 use Rattle.bus_semantics.proofs.SameWanted.{wish_itself}
-use Rattle.bus_semantics.specs.Wanted.{Wanted, to_start, wanted_by}
-use Rattle.bus_semantics.specs.History.{History, Noted, Past, noted, note, needs_event, started_before, runs, last_started}
-use Rattle.bus_semantics.specs.Objects.{object_of, touched, touched_by, touches, entries_of}
-use Rattle.bus_semantics.specs.Owners.{key_fits}
-use Rattle.bus_semantics.specs.Fitting.{fits}
-use Rattle.bus_semantics.specs.Actor.{next_wish, is_this, may_start, caller_has_asked, is_held_back, starts_or_goes_on, follows_program}
-use Rattle.bus_semantics.specs.Locality.{starts_its_own, is_proper, SameAnswers}
-use Rattle.bus_semantics.specs.Matching.{start_matches, matches}
-use Rattle.bus_semantics.specs.Legal.{admission_allows, Answers, MayFollow, IsLegal}
-use Rattle.bus_semantics.specs.Asked.{MayCome}
-use Rattle.bus_semantics.specs.Sound.{IsSound}
 use Rattle.history_laws.proofs.Asking.{begun, end_own, admission_own}
 use Rattle.bus_laws.proofs.Thinning.{noting, option_same}
 use Rattle.bus_laws.proofs.Local.{touching, proper_legal}

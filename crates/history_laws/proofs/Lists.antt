@@ -1,10 +1,6 @@
 -- Items of lists.
 use Rattle.std.proofs.Common.{◌≡◌, ℕ, zero, suc, Bool, true, false, if◌then◌else◌, refl, ap, List, [], ◌∷◌, ◌++◌, Option, Some, None}
-use Rattle.std.proofs.lemmas.Bool.{and_from, and_parts}
-use Rattle.std.proofs.lemmas.Option.{same_Some}
-use Rattle.std.specs.List.{slice_get, list_all}
-use Rattle.std.specs.Option.{option_or}
-use Rattle.bus_semantics.specs.History.{newest}
+use Rattle.bus_semantics.specs.Common.{and_from, and_parts, same_Some, slice_get, list_all, option_or, newest}
 pub use Rattle.bus_laws.proofs.Thinning.{there_is}
 
 -- an item of a longer list is the last, or stands before

@@ -1,17 +1,11 @@
 -- Masks of elements, and the words of those that are marked.
-use Rattle.std.proofs.Common.{◌≡◌, ℕ, suc, ◌+◌, ◌*◌, ◌<◌, ◌≤◌, ℤ, Bool, true, false, ◌==◌, if◌then◌else◌, refl, ◌∙◌, ap, arith, List, [], ◌∷◌, ◌++◌, length, replicate, Option, Some, None, length-append}
+use Rattle.std.proofs.Common.{◌≡◌, ℕ, suc, ◌+◌, ◌*◌, ◌<◌, ◌≤◌, ℤ, Bool, true, false, ◌==◌, if◌then◌else◌, refl, ◌∙◌, ap, arith, List, [], ◌∷◌, ◌++◌, length, replicate, Option, Some, None}
+use Rattle.std.proofs.Common.{length-append}
 use Rattle.std.specs.Prelude.{◌/◌, ◌%◌, ◌^◌, nat_lt, flat_map, filter}
-use Rattle.std.specs.Option.{option_map_or}
-use Rattle.std.specs.List.{slice_get}
+use Rattle.bus_semantics.specs.Common.{option_map_or, slice_get, and_from, and_parts, false≢true, ltb-true, nat_tests, length-replicate, Limits, Plan, words_at, words_of_all, marked}
+use Rattle.bus_semantics.specs.Common.{marks_fit, mask_of, is_within}
 use Rattle.std.proofs.Math.Nat.{zero-add, zero-lt-suc, pow-succ', add-mul-mod_self_left, add-mul-div_left}
-use Rattle.std.proofs.lemmas.Bool.{and_from, and_parts, false≢true, ltb-true}
-use Rattle.std.proofs.lemmas.Bool.Decides.{nat_tests}
-use Rattle.std.proofs.lemmas.List.{length-replicate}
-use Rattle.rte_value.specs.declared.kinds.Limits.{Limits}
 use Rattle.bus_semantics.specs.declared.plan.ElemPlan.{ElemPlan}
-use Rattle.bus_semantics.specs.Plan.{Plan}
-use Rattle.bus_semantics.specs.Lists.{words_at, words_of_all, marked, marks_fit, mask_of}
-use Rattle.bus_semantics.specs.SoundElements.{is_within}
 use Rattle.history_laws.specs.Given.{are_within, elem_takes, limits_at, elems_take}
 
 -- ---- masks

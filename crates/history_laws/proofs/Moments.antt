@@ -1,32 +1,15 @@
 -- The value of an element has as many words as its type says, so those of a list's elements at one moment are together a value.
-use Rattle.std.proofs.Common.{◌≡◌, ℕ, zero, suc, ◌+◌, ◌<◌, ◌≤◌, ℤ, Bool, true, false, ◌&&◌, ◌||◌, not, ◌==◌, if◌then◌else◌, refl, sym, ◌∙◌, ap, subst, arith, List, [], ◌∷◌, length, take, drop, Option, Some, None}
-use Rattle.std.proofs.lemmas.Bool.{and_from, and_parts, eqb-true, eq-eqb, leb-true, false≢true}
-use Rattle.std.proofs.lemmas.Option.{same_Some, slice_get_within}
-use Rattle.std.proofs.lemmas.List.{length-append, length-take-le, length-drop}
-use Rattle.std.proofs.lemmas.List.Folds.{list_all-append}
-use Rattle.std.specs.Option.{option_or, option_map_or}
-use Rattle.std.specs.List.{slice_get, list_all}
+use Rattle.std.proofs.Common.{◌≡◌, ℕ, zero, suc, ◌+◌, ◌<◌, ◌≤◌, ℤ, Bool, true, false, ◌&&◌, ◌||◌, not, ◌==◌, if◌then◌else◌, refl, sym, ◌∙◌, ap, subst, arith, List, [], ◌∷◌, length, take}
+use Rattle.std.proofs.Common.{drop, Option, Some, None}
+use Rattle.bus_semantics.specs.Common.{and_from, and_parts, eqb-true, eq-eqb, leb-true, false≢true, same_Some, slice_get_within, length-append, length-drop, list_all-append, option_or}
+use Rattle.bus_semantics.specs.Common.{option_map_or, slice_get, list_all, words_of, same_number, Plan, Runnable, every_from, positions, group_of, instance_of, to_write, to_publish}
+use Rattle.bus_semantics.specs.Common.{to_publish_all, elems_of, words_at, words_of_all, marked, marks_fit, split, list_fits, Past, key_fits, elem_fits, is_writable, is_unqueued, holds}
+use Rattle.bus_semantics.specs.Common.{activation_may_want, wish_fits, is_in_group, last_in, stored_in, last_stored, value_at, moment_of, is_proper, is_in, is_distinct, same_numbers}
+use Rattle.bus_semantics.specs.Common.{limits_fit, elem_sound, agrees, accesses_elem, list_kind, list_sound, IsSound}
+use Rattle.std.proofs.lemmas.List.{length-take-le}
 use Rattle.std.specs.Prelude.{unwrap_or, nat_lt, nat_le, flat_map}
-use Rattle.rte_value.specs.Values.{words_of, same_number}
-use Rattle.bus_semantics.specs.declared.plan.ElemPlan.{ElemPlan}
-use Rattle.bus_semantics.specs.declared.plan.CoherentList.{CoherentList}
-use Rattle.bus_semantics.specs.declared.script.Mapping.{Mapping}
-use Rattle.bus_semantics.specs.declared.entries.Actor.{Actor}
-use Rattle.bus_semantics.specs.declared.entries.Actor.TheVariants.{Env, Machine, Act}
-use Rattle.bus_semantics.specs.declared.entries.Deed.{Deed}
+use Rattle.bus_laws.specs.Common.{ElemPlan, CoherentList, Mapping, Actor, Env, Machine, Act, Deed}
 use Rattle.bus_semantics.specs.declared.entries.Deed.TheVariants as deed
-use Rattle.bus_semantics.specs.Plan.{Plan, Runnable, every_from, positions, group_of, instance_of}
-use Rattle.bus_semantics.specs.Wanted.{to_write, to_publish, to_publish_all}
-use Rattle.bus_semantics.specs.Lists.{elems_of, words_at, words_of_all, marked, marks_fit, split, list_fits}
-use Rattle.bus_semantics.specs.History.{Past}
-use Rattle.bus_semantics.specs.Owners.{key_fits, elem_fits, is_writable, is_unqueued, holds}
-use Rattle.bus_semantics.specs.Fitting.{activation_may_want, wish_fits}
-use Rattle.bus_semantics.specs.Unqueued.{is_in_group, last_in, stored_in, last_stored, value_at, moment_of}
-use Rattle.bus_semantics.specs.Locality.{is_proper}
-use Rattle.bus_semantics.specs.SoundPlan.{is_in, is_distinct, same_numbers}
-use Rattle.bus_semantics.specs.SoundElements.{limits_fit, elem_sound, agrees}
-use Rattle.bus_semantics.specs.SoundLists.{accesses_elem, list_kind, list_sound}
-use Rattle.bus_semantics.specs.Sound.{IsSound}
 use Rattle.history_laws.specs.LookUps.{sought, looked, all_at}
 use Rattle.bus_laws.proofs.Thinning.{noting, option_same}
 use Rattle.bus_laws.proofs.Bundling.{same_lists}

@@ -1,40 +1,14 @@
 -- Of one wish at most one entry may come.
 use Rattle.std.proofs.Common.{◌≡◌, ℕ, ℤ, Bool, true, false, ◌&&◌, not, ◌==◌, refl, sym, ◌∙◌, ap, subst, List, [], Option, Some, None}
-use Rattle.std.proofs.lemmas.Bool.{and_parts, eqb-true, false≢true}
-use Rattle.std.proofs.lemmas.Option.{same_Some}
+use Rattle.bus_semantics.specs.Common.{and_parts, eqb-true, false≢true, same_Some, slice_get, ActKey, Step, Value, words_of, same_words, Value-by_words, same_words-Decides, Plan, kind_of}
+use Rattle.bus_semantics.specs.Common.{instance_of, server_of, Wanted, wanted_by, Noted, Past, key_fits, event_fits, start_fits, answer_fits, fits, is_key_point, is_request, starts_request}
+use Rattle.bus_semantics.specs.Common.{next_request, answer_to, ask_code, result_of, starts_of, requests_of, has_unstarted, elems_of, value_at, moment_of, read_code, is_updated, send_code}
+use Rattle.bus_semantics.specs.Common.{received_at, stage_of, switch_code, mode_at_port, is_disabled, first_unbegun, phase_after, phase_may_come, is_due_kind, counts_for, same_bool}
+use Rattle.bus_semantics.specs.Common.{admission_allows, is_outcome, is_some_outcome, Answers, starts_its_own, is_proper, MayCome, IsSound}
 use Rattle.std.specs.Prelude.{nat_lt, unwrap_or, length}
-use Rattle.std.specs.List.{slice_get}
-use Rattle.rte_value.specs.declared.kinds.ActKey.{ActKey}
-use Rattle.rte_value.specs.declared.kinds.Step.{Step}
 use Rattle.rte_value.specs.declared.kinds.Step.TheVariants as step
-use Rattle.rte_value.specs.declared.value.Value.{Value}
-use Rattle.rte_value.specs.Values.{words_of, same_words}
-use Rattle.rte_value.specs.EqualValues.{Value-by_words, same_words-Decides}
-use Rattle.bus_semantics.specs.declared.plan.EventKind.{EventKind}
-use Rattle.bus_semantics.specs.declared.plan.EventKind.TheVariants.{Timing, Init, DataReceived, Invoked, Returns, ModeSwitch, Ack}
-use Rattle.bus_semantics.specs.declared.script.Mapping.{Mapping}
-use Rattle.bus_semantics.specs.declared.entries.Actor.{Actor}
-use Rattle.bus_semantics.specs.declared.entries.Actor.TheVariants.{Env, Machine, Act}
-use Rattle.bus_semantics.specs.declared.entries.Deed.{Deed}
+use Rattle.bus_laws.specs.Common.{EventKind, Timing, Init, DataReceived, Invoked, Returns, ModeSwitch, Ack, Mapping, Actor, Env, Machine, Act, Deed, Entry}
 use Rattle.bus_semantics.specs.declared.entries.Deed.TheVariants as deed
-use Rattle.bus_semantics.specs.declared.entries.Entry.{Entry}
-use Rattle.bus_semantics.specs.Plan.{Plan, kind_of, instance_of, server_of}
-use Rattle.bus_semantics.specs.Wanted.{Wanted, wanted_by}
-use Rattle.bus_semantics.specs.History.{Noted, Past}
-use Rattle.bus_semantics.specs.Owners.{key_fits, event_fits}
-use Rattle.bus_semantics.specs.Fitting.{start_fits, answer_fits, fits}
-use Rattle.bus_semantics.specs.Calls.{is_key_point, is_request, starts_request, next_request, answer_to, ask_code, result_of, starts_of, requests_of, has_unstarted}
-use Rattle.bus_semantics.specs.Lists.{elems_of}
-use Rattle.bus_semantics.specs.Unqueued.{value_at, moment_of, read_code, is_updated}
-use Rattle.bus_semantics.specs.Queued.{send_code, received_at}
-use Rattle.bus_semantics.specs.Modes.{stage_of, switch_code, mode_at_port}
-use Rattle.bus_semantics.specs.Admission.{is_disabled}
-use Rattle.bus_semantics.specs.Phases.{first_unbegun, phase_after, phase_may_come}
-use Rattle.bus_semantics.specs.Due.{is_due_kind, counts_for}
-use Rattle.bus_semantics.specs.Legal.{same_bool, admission_allows, is_outcome, is_some_outcome, Answers}
-use Rattle.bus_semantics.specs.Locality.{starts_its_own, is_proper}
-use Rattle.bus_semantics.specs.Asked.{MayCome}
-use Rattle.bus_semantics.specs.Sound.{IsSound}
 use Rattle.bus_laws.proofs.Thinning.{noting, option_same}
 use Rattle.bus_laws.proofs.LocalServers.{start_owned}
 use Rattle.history_laws.proofs.Requests.{Serving, serving, counts_same, unstarted, Unstarted}

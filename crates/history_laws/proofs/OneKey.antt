@@ -1,33 +1,12 @@
 -- A queued server has one key: between starts and returns of the server, that key's activation serves.
 use Rattle.std.proofs.Common.{◌≡◌, ℕ, ◌+◌, Bool, true, false, ◌&&◌, ◌==◌, if◌then◌else◌, refl, sym, ◌∙◌, ap, subst, arith, [], ◌∷◌, length, Option, Some, None}
-use Rattle.std.proofs.lemmas.Bool.{and_parts, eqb-true, false≢true}
-use Rattle.std.proofs.lemmas.Option.{same_Some}
-use Rattle.std.specs.Option.{option_or, option_map_or}
+use Rattle.bus_semantics.specs.Common.{and_parts, eqb-true, false≢true, same_Some, option_or, option_map_or, list_all, slice_get, ActKey, Value, words_of, same_number, same_key}
+use Rattle.bus_semantics.specs.Common.{same_key-Decides, Plan, Runnable, every_from, queue_of, kind_of, runnable_of_event, History, Past, noted, newest, runs, first_server, server_object}
+use Rattle.bus_semantics.specs.Common.{object_of_kind, served_by, touches, entries_of, serves_directly, key_fits, start_fits, fits, starts_its_own, is_proper, is_open, serves_by, serves_any}
+use Rattle.bus_semantics.specs.Common.{IsLegal, server_sound, server_served, serves_back, IsSound}
 use Rattle.std.specs.Prelude.{filter, unwrap_or, nat_lt}
-use Rattle.std.specs.List.{list_all, slice_get}
-use Rattle.rte_value.specs.declared.kinds.ActKey.{ActKey}
-use Rattle.rte_value.specs.declared.value.Value.{Value}
-use Rattle.rte_value.specs.Values.{words_of, same_number, same_key}
-use Rattle.rte_value.specs.EqualKeys.{same_key-Decides}
-use Rattle.bus_semantics.specs.declared.plan.ServerPlan.{ServerPlan}
-use Rattle.bus_semantics.specs.declared.plan.EventKind.{EventKind}
-use Rattle.bus_semantics.specs.declared.plan.EventKind.TheVariants.{Timing, Init, DataReceived, Invoked, Returns, ModeSwitch, Ack}
-use Rattle.bus_semantics.specs.declared.script.Mapping.{Mapping}
-use Rattle.bus_semantics.specs.declared.entries.Actor.{Actor}
-use Rattle.bus_semantics.specs.declared.entries.Actor.TheVariants.{Env, Machine, Act}
-use Rattle.bus_semantics.specs.declared.entries.Deed.{Deed}
+use Rattle.bus_laws.specs.Common.{ServerPlan, EventKind, Timing, Init, DataReceived, Invoked, Returns, ModeSwitch, Ack, Mapping, Actor, Env, Machine, Act, Deed}
 use Rattle.bus_semantics.specs.declared.entries.Deed.TheVariants as deed
-use Rattle.bus_semantics.specs.Plan.{Plan, Runnable, every_from, queue_of, kind_of, runnable_of_event}
-use Rattle.bus_semantics.specs.History.{History, Past, noted, newest, runs}
-use Rattle.bus_semantics.specs.Objects.{first_server, server_object, object_of_kind, served_by, touches, entries_of}
-use Rattle.bus_semantics.specs.Owners.{serves_directly, key_fits}
-use Rattle.bus_semantics.specs.Fitting.{start_fits, fits}
-use Rattle.bus_semantics.specs.Locality.{starts_its_own, is_proper}
-use Rattle.bus_semantics.specs.Matching.{is_open, serves_by, serves_any}
-use Rattle.bus_semantics.specs.Legal.{IsLegal}
-use Rattle.bus_semantics.specs.SoundElements.{server_sound}
-use Rattle.bus_semantics.specs.SoundEvents.{server_served, serves_back}
-use Rattle.bus_semantics.specs.Sound.{IsSound}
 use Rattle.history_laws.specs.LookUps.{Sought, sought, looked, at_place}
 use Rattle.bus_laws.proofs.Thinning.{noting, if_same, option_same, sought_where}
 use Rattle.bus_laws.proofs.Local.{proper_legal}

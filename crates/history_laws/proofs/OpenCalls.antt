@@ -1,24 +1,10 @@
 -- A request that stays open: nothing was returned, so the activation that serves it goes on.
 use Rattle.std.proofs.Common.{◌≡◌, ℕ, zero, suc, ◌≤◌, ℤ, Bool, true, false, ◌&&◌, ◌||◌, not, if◌then◌else◌, refl, sym, ◌∙◌, ap, subst, arith, List, [], ◌∷◌, ◌++◌, length, Option, Some, None}
-use Rattle.std.proofs.lemmas.Bool.{false≢true}
-use Rattle.std.specs.Option.{option_or}
+use Rattle.bus_semantics.specs.Common.{false≢true, option_or, slice_get, ActKey, words_of, same_key, Plan, History, Noted, Past, noted, note, newest, runs, served_by, is_request_at}
+use Rattle.bus_semantics.specs.Common.{takes_reply_at, is_outstanding, serves, returned_by, returned_to, requests_of, is_open, serves_by, MayFollow, IsLegal, IsSound}
 use Rattle.std.specs.Prelude.{unwrap_or}
-use Rattle.std.specs.List.{slice_get}
-use Rattle.rte_value.specs.declared.kinds.ActKey.{ActKey}
-use Rattle.rte_value.specs.Values.{words_of, same_key}
-use Rattle.bus_semantics.specs.declared.script.Mapping.{Mapping}
-use Rattle.bus_semantics.specs.declared.entries.Actor.{Actor}
-use Rattle.bus_semantics.specs.declared.entries.Actor.TheVariants.{Act}
-use Rattle.bus_semantics.specs.declared.entries.Deed.{Deed}
+use Rattle.bus_laws.specs.Common.{Mapping, Actor, Act, Deed, Entry}
 use Rattle.bus_semantics.specs.declared.entries.Deed.TheVariants as deed
-use Rattle.bus_semantics.specs.declared.entries.Entry.{Entry}
-use Rattle.bus_semantics.specs.Plan.{Plan}
-use Rattle.bus_semantics.specs.History.{History, Noted, Past, noted, note, newest, runs}
-use Rattle.bus_semantics.specs.Objects.{served_by}
-use Rattle.bus_semantics.specs.Calls.{is_request_at, takes_reply_at, is_outstanding, serves, returned_by, returned_to, requests_of}
-use Rattle.bus_semantics.specs.Matching.{is_open, serves_by}
-use Rattle.bus_semantics.specs.Legal.{MayFollow, IsLegal}
-use Rattle.bus_semantics.specs.Sound.{IsSound}
 use Rattle.bus_laws.proofs.Thinning.{noting, clash, if_same}
 use Rattle.bus_laws.proofs.LocalReturns.{newer_returned}
 use Rattle.history_laws.specs.Serving.{IsOpen, IsServedBy}

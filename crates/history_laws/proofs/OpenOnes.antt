@@ -1,19 +1,9 @@
 -- The areas that a key has open, one entry further.
 use Rattle.std.proofs.Common.{◌≡◌, ℕ, Bool, true, false, not, if◌then◌else◌, refl, sym, ◌∙◌, ap, List, [], ◌∷◌, ◌++◌, Option, Some}
-use Rattle.std.proofs.lemmas.Bool.{false≢true}
-use Rattle.std.specs.Option.{option_map_or}
-use Rattle.rte_value.specs.declared.kinds.ActKey.{ActKey}
-use Rattle.bus_semantics.specs.declared.script.Mapping.{Mapping}
-use Rattle.bus_semantics.specs.declared.entries.Deed.{Deed}
+use Rattle.bus_semantics.specs.Common.{false≢true, option_map_or, ActKey, Plan, wanted_by, History, is_of, is_over, runs, next_of_activity, Activation, activation_of, with_deed, MayFollow}
+use Rattle.bus_semantics.specs.Common.{IsLegal, IsSound}
+use Rattle.bus_laws.specs.Common.{Mapping, Deed, Entry}
 use Rattle.bus_semantics.specs.declared.entries.Deed.TheVariants as deed
-use Rattle.bus_semantics.specs.declared.entries.Entry.{Entry}
-use Rattle.bus_semantics.specs.Plan.{Plan}
-use Rattle.bus_semantics.specs.Wanted.{wanted_by}
-use Rattle.bus_semantics.specs.History.{History, is_of, is_over, runs}
-use Rattle.bus_semantics.specs.Activations.{next_of_activity}
-use Rattle.bus_semantics.specs.Actor.{Activation, activation_of, with_deed}
-use Rattle.bus_semantics.specs.Legal.{MayFollow, IsLegal}
-use Rattle.bus_semantics.specs.Sound.{IsSound}
 use Rattle.history_laws.specs.OpenAreas.{open_after, open_areas, are_nested, innermost}
 use Rattle.history_laws.specs.Following.{open_areas_more}
 use Rattle.history_laws.proofs.Asking.{outside, admission_once, nested, leaves_innermost}

@@ -1,23 +1,10 @@
 -- The entries of a legal history that touch an object follow one after the other.
 use Rattle.std.proofs.Common.{◌≡◌, ℕ, Bool, true, false, ◌&&◌, if◌then◌else◌, refl, sym, ◌∙◌, ap, subst, [], ◌∷◌, length, Some, None}
-use Rattle.std.proofs.lemmas.Bool.{and_parts, false≢true}
+use Rattle.bus_semantics.specs.Common.{and_parts, false≢true, list_all, ActKey, Plan, to_admit, to_end, wanted_by, History, Noted, Past, noted, note, touched_by, touches, entries_of}
+use Rattle.bus_semantics.specs.Common.{is_proper, SameAnswers, matches, IsPastOf, Answers, MayFollow, IsLegal, IsSound}
 use Rattle.std.specs.Prelude.{nat_lt, unwrap_or}
-use Rattle.std.specs.List.{list_all}
-use Rattle.rte_value.specs.declared.kinds.ActKey.{ActKey}
-use Rattle.bus_semantics.specs.declared.script.Mapping.{Mapping}
-use Rattle.bus_semantics.specs.declared.entries.Actor.{Actor}
-use Rattle.bus_semantics.specs.declared.entries.Actor.TheVariants.{Env, Machine, Act}
-use Rattle.bus_semantics.specs.declared.entries.Deed.{Deed}
+use Rattle.bus_laws.specs.Common.{Mapping, Actor, Env, Machine, Act, Deed}
 use Rattle.bus_semantics.specs.declared.entries.Deed.TheVariants as deed
-use Rattle.bus_semantics.specs.Plan.{Plan}
-use Rattle.bus_semantics.specs.Wanted.{to_admit, to_end, wanted_by}
-use Rattle.bus_semantics.specs.History.{History, Noted, Past, noted, note}
-use Rattle.bus_semantics.specs.Objects.{touched_by, touches, entries_of}
-use Rattle.bus_semantics.specs.Locality.{is_proper, SameAnswers}
-use Rattle.bus_semantics.specs.Matching.{matches}
-use Rattle.bus_semantics.specs.Pasts.{IsPastOf}
-use Rattle.bus_semantics.specs.Legal.{Answers, MayFollow, IsLegal}
-use Rattle.bus_semantics.specs.Sound.{IsSound}
 use Rattle.bus_laws.proofs.Thinning.{option_same}
 use Rattle.bus_laws.proofs.Local.{touching, proper_legal}
 use Rattle.history_laws.proofs.Keys.{mine, itself, Alive, alive, IsTo, others, starts, goes_on, is_to, fit_key}

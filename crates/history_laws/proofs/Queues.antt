@@ -1,32 +1,12 @@
 -- An open request of a queued server has not started, or is served.
 use Rattle.std.proofs.Common.{◌≡◌, ℕ, zero, suc, ◌≤◌, ◌<◌, ℤ, Bool, true, false, ◌&&◌, not, ◌==◌, if◌then◌else◌, refl, sym, ◌∙◌, ap, subst, arith, List, [], ◌∷◌, ◌++◌, length, Some, None}
-use Rattle.std.proofs.lemmas.Bool.{and_parts, eq-eqb, eqb-true, ltb-true, false≢true}
-use Rattle.std.proofs.lemmas.Bool.Decides.{nat_tests}
-use Rattle.std.proofs.lemmas.Option.{same_Some}
+use Rattle.bus_semantics.specs.Common.{and_parts, eq-eqb, eqb-true, ltb-true, false≢true, nat_tests, same_Some, slice_get, list_all, ActKey, Value, words_of, same_words, same_number}
+use Rattle.bus_semantics.specs.Common.{same_key, Plan, server_of, queue_of, kind_of, History, noted, note, served_by, serves_directly, key_fits, is_request_at, returned_by, counts_with}
+use Rattle.bus_semantics.specs.Common.{requests_of, starts_of, serves, is_key_point, is_request, next_request, has_unstarted, counts_for, is_due_kind, is_open, serves_by, plain_key}
+use Rattle.bus_semantics.specs.Common.{is_proper, MayFollow, IsLegal, IsSound}
 use Rattle.std.specs.Prelude.{nat_lt}
-use Rattle.std.specs.List.{slice_get, list_all}
-use Rattle.rte_value.specs.declared.kinds.ActKey.{ActKey}
-use Rattle.rte_value.specs.declared.value.Value.{Value}
-use Rattle.rte_value.specs.Values.{words_of, same_words, same_number, same_key}
-use Rattle.bus_semantics.specs.declared.plan.ServerPlan.{ServerPlan}
-use Rattle.bus_semantics.specs.declared.plan.EventKind.TheVariants.{Invoked}
-use Rattle.bus_semantics.specs.declared.script.Mapping.{Mapping}
-use Rattle.bus_semantics.specs.declared.entries.Actor.{Actor}
-use Rattle.bus_semantics.specs.declared.entries.Actor.TheVariants.{Env, Machine, Act}
-use Rattle.bus_semantics.specs.declared.entries.Deed.{Deed}
+use Rattle.bus_laws.specs.Common.{ServerPlan, Invoked, Mapping, Actor, Env, Machine, Act, Deed, Entry}
 use Rattle.bus_semantics.specs.declared.entries.Deed.TheVariants as deed
-use Rattle.bus_semantics.specs.declared.entries.Entry.{Entry}
-use Rattle.bus_semantics.specs.Plan.{Plan, server_of, queue_of, kind_of}
-use Rattle.bus_semantics.specs.History.{History, noted, note}
-use Rattle.bus_semantics.specs.Objects.{served_by}
-use Rattle.bus_semantics.specs.Owners.{serves_directly, key_fits}
-use Rattle.bus_semantics.specs.Calls.{is_request_at, returned_by, counts_with, requests_of, starts_of, serves, is_key_point, is_request, next_request, has_unstarted}
-use Rattle.bus_semantics.specs.Due.{counts_for, is_due_kind}
-use Rattle.bus_semantics.specs.Matching.{is_open, serves_by}
-use Rattle.bus_semantics.specs.Rest.{plain_key}
-use Rattle.bus_semantics.specs.Locality.{is_proper}
-use Rattle.bus_semantics.specs.Legal.{MayFollow, IsLegal}
-use Rattle.bus_semantics.specs.Sound.{IsSound}
 use Rattle.history_laws.specs.LookUps.{looked}
 use Rattle.bus_laws.proofs.Thinning.{option_same, there_is}
 use Rattle.bus_laws.proofs.Local.{proper_legal}

@@ -1,24 +1,10 @@
 -- The request that a server's start takes: the next one that counts for the activation, and it was made by an ask.
 use Rattle.std.proofs.Common.{◌≡◌, ℕ, zero, suc, ℤ, Bool, true, false, not, ◌==◌, if◌then◌else◌, refl, sym, ◌∙◌, ap, subst, List, [], ◌∷◌, ◌++◌, length, Option, Some, None}
-use Rattle.std.proofs.lemmas.Bool.{and_parts, ltb-true, false≢true}
+use Rattle.bus_semantics.specs.Common.{and_parts, ltb-true, false≢true, slice_get, ActKey, Value, words_of, same_number, Plan, server_of, queue_of, kind_of, runnable_of_event, Past}
+use Rattle.bus_semantics.specs.Common.{served_by, serves_directly, key_fits, counts_with, requests_of, starts_of, has_unstarted, counts_for, IsSound}
 use Rattle.std.specs.Prelude.{nat_lt, is_none}
-use Rattle.std.specs.List.{slice_get}
-use Rattle.rte_value.specs.declared.kinds.ActKey.{ActKey}
-use Rattle.rte_value.specs.declared.value.Value.{Value}
-use Rattle.rte_value.specs.Values.{words_of, same_number}
-use Rattle.bus_semantics.specs.declared.plan.EventKind.TheVariants.{Invoked}
-use Rattle.bus_semantics.specs.declared.script.Mapping.{Mapping}
-use Rattle.bus_semantics.specs.declared.entries.Actor.{Actor}
-use Rattle.bus_semantics.specs.declared.entries.Actor.TheVariants.{Act}
-use Rattle.bus_semantics.specs.declared.entries.Deed.{Deed}
+use Rattle.bus_laws.specs.Common.{Invoked, Mapping, Actor, Act, Deed}
 use Rattle.bus_semantics.specs.declared.entries.Deed.TheVariants as deed
-use Rattle.bus_semantics.specs.Plan.{Plan, server_of, queue_of, kind_of, runnable_of_event}
-use Rattle.bus_semantics.specs.History.{Past}
-use Rattle.bus_semantics.specs.Objects.{served_by}
-use Rattle.bus_semantics.specs.Owners.{serves_directly, key_fits}
-use Rattle.bus_semantics.specs.Calls.{counts_with, requests_of, starts_of, has_unstarted}
-use Rattle.bus_semantics.specs.Due.{counts_for}
-use Rattle.bus_semantics.specs.Sound.{IsSound}
 use Rattle.bus_laws.proofs.Thinning.{noting, option_same, there_is}
 use Rattle.bus_laws.proofs.OneEvent.{invoked_serves}
 use Rattle.history_laws.proofs.Lists.{AtEnd, earlier, last, at_end}

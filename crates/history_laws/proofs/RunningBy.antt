@@ -1,38 +1,18 @@
 -- Between starts, admissions and ends that touch a machine, an event's activation runs: from its start, or from its admission where it
 -- has disabled modes.
 use Rattle.std.proofs.Common.{◌≡◌, ℕ, ◌+◌, ◌<◌, Bool, true, false, ◌&&◌, ◌||◌, not, ◌==◌, if◌then◌else◌, refl, sym, ◌∙◌, ap, subst, List, [], ◌∷◌, ◌++◌, length, Option, Some, None, is_some}
-use Rattle.std.proofs.lemmas.Bool.{and_parts, and_right, or_right, eq-eqb, eqb-true, false≢true}
-use Rattle.std.proofs.lemmas.Option.{same_Some}
-use Rattle.std.specs.Option.{option_or, option_map_or}
+use Rattle.bus_semantics.specs.Common.{and_parts, and_right, or_right, eq-eqb, eqb-true, false≢true, same_Some, option_or, option_map_or, ActKey, Value, same_number, same_key}
+use Rattle.bus_semantics.specs.Common.{same_key-Decides, Plan, kind_of, disabling_of, runnable_of_event, to_admit, wanted_by, History, note, newest, is_of, is_over, runs, last_started}
+use Rattle.bus_semantics.specs.Common.{first_machine, object_of_kind, machine_object, disabler_of, owing, machine_of_event, touches, entries_of, key_fits, next_of_activity, Activation}
+use Rattle.bus_semantics.specs.Common.{activation_of, with_deed, is_open, runs_by, MayFollow, IsLegal, may_be_disabled, IsSound}
 use Rattle.std.specs.Prelude.{unwrap_or, is_none, option_map, nat_lt}
-use Rattle.rte_value.specs.declared.kinds.ActKey.{ActKey}
-use Rattle.rte_value.specs.declared.value.Value.{Value}
-use Rattle.rte_value.specs.Values.{same_number, same_key}
-use Rattle.rte_value.specs.EqualKeys.{same_key-Decides}
-use Rattle.bus_semantics.specs.declared.plan.EventKind.{EventKind}
-use Rattle.bus_semantics.specs.declared.plan.EventKind.TheVariants.{Timing, Init, DataReceived, Invoked, Returns, ModeSwitch, Ack}
-use Rattle.bus_semantics.specs.declared.plan.Disabling.{Disabling}
-use Rattle.bus_semantics.specs.declared.script.Mapping.{Mapping}
-use Rattle.bus_semantics.specs.declared.entries.Actor.{Actor}
-use Rattle.bus_semantics.specs.declared.entries.Actor.TheVariants.{Env, Machine, Act}
-use Rattle.bus_semantics.specs.declared.entries.Deed.{Deed}
+use Rattle.bus_laws.specs.Common.{EventKind, Timing, Init, DataReceived, Invoked, Returns, ModeSwitch, Ack, Disabling, Mapping, Actor, Env, Machine, Act, Deed, Entry}
 use Rattle.bus_semantics.specs.declared.entries.Deed.TheVariants as deed
-use Rattle.bus_semantics.specs.declared.entries.Entry.{Entry}
-use Rattle.bus_semantics.specs.Plan.{Plan, kind_of, disabling_of, runnable_of_event}
-use Rattle.bus_semantics.specs.Wanted.{to_admit, wanted_by}
-use Rattle.bus_semantics.specs.History.{History, note, newest, is_of, is_over, runs, last_started}
-use Rattle.bus_semantics.specs.Objects.{first_machine, object_of_kind, machine_object, disabler_of, owing, machine_of_event, touches, entries_of}
-use Rattle.bus_semantics.specs.Owners.{key_fits}
-use Rattle.bus_semantics.specs.Activations.{next_of_activity}
-use Rattle.bus_semantics.specs.Actor.{Activation, activation_of, with_deed}
-use Rattle.bus_semantics.specs.Matching.{is_open, runs_by}
-use Rattle.bus_semantics.specs.Legal.{MayFollow, IsLegal}
-use Rattle.bus_semantics.specs.SoundEvents.{may_be_disabled}
-use Rattle.bus_semantics.specs.Sound.{IsSound}
 use Rattle.history_laws.proofs.Asking.{admission_first, admission_once, admission_disabled}
 use Rattle.bus_laws.proofs.Thinning.{clash, not_same}
 use Rattle.history_laws.proofs.Lists.{skipped}
-use Rattle.history_laws.proofs.Keys.{mine, itself, begins, grown, none_started, Alive, alive, IsTo, others, starts, goes_on, is_to, fit_key, runs_mine, runs_other, activation_mine, activation_other, started_mine, started_other}
+use Rattle.history_laws.proofs.Keys.{mine, itself, begins, grown, none_started, Alive, alive, IsTo, others, starts, goes_on, is_to, fit_key, runs_mine, runs_other, activation_mine}
+use Rattle.history_laws.proofs.Keys.{activation_other, started_mine, started_other}
 use Rattle.history_laws.proofs.GoingOn.{acting}
 use Rattle.history_laws.proofs.EventFacts.{can_be_disabled, start_apart, plain, unserved}
 

@@ -1,9 +1,7 @@
 -- Runs that obey a rule: each wish may be asked after those before it, whatever is answered, and what holds at the end is said.
 use Rattle.std.proofs.Common.{◌≡◌, ℕ, zero, suc, refl, ◌∙◌, ap, subst, List, [], ◌∷◌, ◌++◌}
 use Rattle.bus_semantics.specs.declared.entries.Deed.{Deed}
-use Rattle.bus_semantics.specs.Wanted.{Wanted, wanted_by}
-use Rattle.bus_semantics.specs.State.{State}
-use Rattle.bus_semantics.specs.Programs.{Outcome, Stop, Go, Running, goes_on, both, calling, times}
+use Rattle.bus_semantics.specs.Common.{Wanted, wanted_by, State, Outcome, Stop, Go, Running, goes_on, both, calling, times}
 use Rattle.history_laws.proofs.Trails.{Trail, trail_on}
 
 -- what is left to run over answers

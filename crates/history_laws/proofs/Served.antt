@@ -1,14 +1,9 @@
 -- The access that a statement has in a sound plan: it is of the statement's kind, names what there is, and has a limit for each word that is given.
 use Rattle.std.proofs.Common.{◌≡◌, ℕ, Bool, true, false, ◌&&◌, ◌||◌, not, ◌==◌, if◌then◌else◌, refl, sym, ◌∙◌, ap, subst, List, [], ◌∷◌, length, Option}
-use Rattle.std.specs.List.{list_any}
-use Rattle.std.proofs.lemmas.Bool.{and_from, and_parts, or_left, or_right, eq-eqb, eqb-true, false≢true, not-true}
-use Rattle.runnable_lang.specs.declared.program.AccessKind.{AccessKind}
+use Rattle.bus_semantics.specs.Common.{list_any, and_from, and_parts, or_left, or_right, eq-eqb, eqb-true, false≢true, not-true, AccessKind, AccessSig, kind_number, is_at, counts, Plan}
+use Rattle.bus_semantics.specs.Common.{Access, same_kind, is_to, found, access_sound, each_access, same_access, accesses_distinct}
 use Rattle.runnable_lang.specs.declared.program.AccessKind.TheVariants as kind
-use Rattle.runnable_lang.specs.declared.program.AccessSig.{AccessSig}
-use Rattle.runnable_lang.specs.Accesses.{kind_number, is_at, counts, serves}
-use Rattle.bus_semantics.specs.Plan.{Plan}
-use Rattle.bus_semantics.specs.State.{Access, same_kind, is_to, found}
-use Rattle.bus_semantics.specs.SoundAccesses.{access_sound, each_access, same_access, accesses_distinct}
+use Rattle.runnable_lang.specs.Accesses.{serves}
 use Rattle.history_laws.specs.LookUps.{clash}
 
 -- ---- kinds

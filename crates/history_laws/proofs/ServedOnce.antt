@@ -1,31 +1,11 @@
 -- An activation serves from its start to its return. The entries of a queued server tell it of the server's one key.
 use Rattle.std.proofs.Common.{◌≡◌, ℕ, suc, ◌+◌, Bool, true, false, not, ◌==◌, if◌then◌else◌, refl, sym, ◌∙◌, ap, subst, arith, List, [], ◌∷◌, ◌++◌, Option, Some, None, is_some}
-use Rattle.std.proofs.lemmas.Bool.{false≢true}
-use Rattle.std.proofs.lemmas.Bool.Decides.{nat_tests}
-use Rattle.std.specs.Option.{option_or, option_map_or}
+use Rattle.bus_semantics.specs.Common.{false≢true, nat_tests, option_or, option_map_or, list_all, ActKey, Value, same_key, Plan, Runnable, kind_of, disabling_of, wanted_by, History, Past}
+use Rattle.bus_semantics.specs.Common.{noted, note, newest, count, is_over, runs, first_server, server_object, served_by, touches, next_of_activity, Activation, activation_of, with_deed}
+use Rattle.bus_semantics.specs.Common.{is_proper, is_open, serves_by, MayFollow, IsLegal, may_be_disabled, IsSound}
 use Rattle.std.specs.Prelude.{filter, unwrap_or}
-use Rattle.std.specs.List.{list_all}
-use Rattle.rte_value.specs.declared.kinds.ActKey.{ActKey}
-use Rattle.rte_value.specs.declared.value.Value.{Value}
-use Rattle.rte_value.specs.Values.{same_key}
-use Rattle.bus_semantics.specs.declared.plan.EventKind.TheVariants.{Invoked}
-use Rattle.bus_semantics.specs.declared.script.Mapping.{Mapping}
-use Rattle.bus_semantics.specs.declared.entries.Actor.{Actor}
-use Rattle.bus_semantics.specs.declared.entries.Actor.TheVariants.{Env, Machine, Act}
-use Rattle.bus_semantics.specs.declared.entries.Deed.{Deed}
+use Rattle.bus_laws.specs.Common.{Invoked, Mapping, Actor, Env, Machine, Act, Deed, Entry}
 use Rattle.bus_semantics.specs.declared.entries.Deed.TheVariants as deed
-use Rattle.bus_semantics.specs.declared.entries.Entry.{Entry}
-use Rattle.bus_semantics.specs.Plan.{Plan, Runnable, kind_of, disabling_of}
-use Rattle.bus_semantics.specs.Wanted.{wanted_by}
-use Rattle.bus_semantics.specs.History.{History, Past, noted, note, newest, count, is_over, runs}
-use Rattle.bus_semantics.specs.Objects.{first_server, server_object, served_by, touches}
-use Rattle.bus_semantics.specs.Activations.{next_of_activity}
-use Rattle.bus_semantics.specs.Actor.{Activation, activation_of, with_deed}
-use Rattle.bus_semantics.specs.Locality.{is_proper}
-use Rattle.bus_semantics.specs.Matching.{is_open, serves_by}
-use Rattle.bus_semantics.specs.Legal.{MayFollow, IsLegal}
-use Rattle.bus_semantics.specs.SoundEvents.{may_be_disabled}
-use Rattle.bus_semantics.specs.Sound.{IsSound}
 use Rattle.history_laws.specs.Wishes.{is_return}
 use Rattle.history_laws.specs.LookUps.{looked}
 use Rattle.history_laws.proofs.Asking.{not_returned, returned, admission_disabled}

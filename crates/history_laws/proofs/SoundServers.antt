@@ -1,17 +1,9 @@
 -- The server of a runnable of a sound plan: it is there, and its arguments and codes fit.
 use Rattle.std.proofs.Common.{◌≡◌, ℕ, true, false, ◌==◌, refl, sym, ◌∙◌, [], length, Some}
 use Rattle.std.specs.Prelude.{nat_le}
-use Rattle.std.specs.List.{list_all, slice_get}
-use Rattle.std.proofs.lemmas.Bool.{and_parts}
-use Rattle.bus_semantics.specs.declared.plan.ArgPlan.{ArgPlan}
-use Rattle.bus_semantics.specs.declared.plan.ServerPlan.{ServerPlan}
-use Rattle.bus_semantics.specs.declared.script.Mapping.{Mapping}
-use Rattle.bus_semantics.specs.Plan.{Plan, Runnable, look, every_from}
-use Rattle.bus_semantics.specs.Activations.{arguments_of}
-use Rattle.bus_semantics.specs.SoundPlan.{is_in, is_distinct}
-use Rattle.bus_semantics.specs.SoundElements.{limits_fit, code_list_fits, queue_fits, server_sound}
-use Rattle.bus_semantics.specs.SoundEvents.{server_served, serves_back}
-use Rattle.bus_semantics.specs.Sound.{IsSound}
+use Rattle.bus_semantics.specs.Common.{list_all, slice_get, and_parts, Plan, Runnable, look, every_from, arguments_of, is_in, is_distinct, limits_fit, code_list_fits, queue_fits}
+use Rattle.bus_semantics.specs.Common.{server_sound, server_served, serves_back, IsSound}
+use Rattle.bus_laws.specs.Common.{ArgPlan, ServerPlan, Mapping}
 use Rattle.history_laws.specs.LookUps.{sought, looked, at_place}
 
 serves_some : (p : Plan) (i n : ℕ) (r : Runnable) → r.server ≡ Some n → serves_back p i r ≡ look p.servers n (λ (v : ServerPlan). v.runnable == i) false

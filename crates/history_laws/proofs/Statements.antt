@@ -1,30 +1,21 @@
 -- The program of a runnable of a sound plan asks what it may, whatever is answered, and at its end what it entered is left.
 use Rattle.std.proofs.Common.{◌≡◌, ℕ, zero, suc, ◌≤◌, ℤ, pos, Bool, true, false, ◌&&◌, ◌||◌, not, ◌==◌, if◌then◌else◌, refl, sym, ◌∙◌, ap, subst, arith, List, [], ◌∷◌, length, map, set, Some}
 use Rattle.std.specs.Prelude.{nat_lt}
-use Rattle.std.specs.Ordering.{int_eq}
-use Rattle.std.specs.List.{list_all, list_any, slice_get}
-use Rattle.std.proofs.lemmas.Bool.{and_from, and_parts, eqb-true}
-use Rattle.std.proofs.lemmas.List.{length-set}
+use Rattle.bus_semantics.specs.Common.{int_eq, list_all, list_any, slice_get, and_from, and_parts, eqb-true, length-set, has_access, is_call, ExprTree, StmtTree, sets, chooses, repeats}
+use Rattle.bus_semantics.specs.Common.{in_area, writes, reads, invalidates, asks_updated, sends, receives, writes_late, reads_early, writes_variable, reads_variable, writes_variable_late}
+use Rattle.bus_semantics.specs.Common.{reads_variable_early, calls, calls_and_goes_on, takes_result, switches, asks_mode, BodyTree, done, next, worth, Plan, Runnable, Wanted, to_write}
+use Rattle.bus_semantics.specs.Common.{to_read, to_invalidate, to_see_updated, to_send, to_receive, to_ask, to_hear, to_take_result, to_enter, to_leave, to_switch, to_see_mode, State}
+use Rattle.bus_semantics.specs.Common.{access, given, found_under, words_under, words_in, number_in, code_in, stored, put, put_all, keep_written, arguments_of, both, calling, takes_nothing}
+use Rattle.bus_semantics.specs.Common.{takes_zero, takes_code, takes_number, takes_value, takes_words, hears, asking_and_hearing, running, running_body, access_sound, each_access}
+use Rattle.bus_semantics.specs.Common.{accesses_distinct, areas_rise, is_in_range, is_declared_after, calls_outside, each_in, each_of, body_sound, IsSound}
 use Rattle.runnable_lang.specs.declared.program.AccessKind.TheVariants as kind
-use Rattle.runnable_lang.specs.Accesses.{has_access}
-use Rattle.runnable_lang.specs.Refusals.{is_call}
-use Rattle.runnable_lang.specs.Trees.{ExprTree, StmtTree, sets, chooses, repeats, in_area, writes, reads, invalidates, asks_updated, sends, receives, writes_late, reads_early, writes_variable, reads_variable, writes_variable_late, reads_variable_early, calls, calls_and_goes_on, takes_result, switches, asks_mode, BodyTree, done, next}
-use Rattle.runnable_lang.specs.Expressions.{worth}
-use Rattle.bus_semantics.specs.declared.entries.Deed.{Deed}
-use Rattle.bus_semantics.specs.declared.script.Mapping.{Mapping}
-use Rattle.bus_semantics.specs.Plan.{Plan, Runnable}
-use Rattle.bus_semantics.specs.Wanted.{Wanted, to_write, to_read, to_invalidate, to_see_updated, to_send, to_receive, to_ask, to_hear, to_take_result, to_enter, to_leave, to_switch, to_see_mode}
-use Rattle.bus_semantics.specs.State.{State, access, given, found_under, words_under, words_in, number_in, code_in, stored, put, put_all, keep_written}
-use Rattle.bus_semantics.specs.Activations.{arguments_of}
-use Rattle.bus_semantics.specs.Programs.{both, calling, takes_nothing, takes_zero, takes_code, takes_number, takes_value, takes_words, hears, asking_and_hearing, running, running_body}
-use Rattle.bus_semantics.specs.SoundAccesses.{access_sound, each_access, accesses_distinct, areas_rise}
-use Rattle.bus_semantics.specs.SoundPrograms.{is_in_range, is_declared_after, calls_outside, each_in, each_of, body_sound}
-use Rattle.bus_semantics.specs.Sound.{IsSound}
+use Rattle.bus_laws.specs.Common.{Deed, Mapping}
 use Rattle.history_laws.specs.OpenAreas.{innermost, all_but_innermost}
 use Rattle.history_laws.proofs.Trails.{Trail, open_of, At}
 use Rattle.history_laws.proofs.Runs.{AtEnd, Run, Obeys, over, asks, in_turn, repeated, called}
 use Rattle.history_laws.proofs.Asked.{MayAsk, IsKept, IsWritten}
-use Rattle.history_laws.proofs.Accesses.{whole, writes_may, late_may, variable_may, variable_late_may, sends_may, reads_may, variable_reads_may, receives_may, calls_may, goes_on_may, hears_may, results_may}
+use Rattle.history_laws.proofs.Accesses.{whole, writes_may, late_may, variable_may, variable_late_may, sends_may, reads_may, variable_reads_may, receives_may, calls_may, goes_on_may}
+use Rattle.history_laws.proofs.Accesses.{hears_may, results_may}
 use Rattle.history_laws.proofs.Entering.{enters, area, area_may, area_rises, switch_may, mode_may, invalidates_may, updated_may}
 
 alone : (b : Bool) → (b || false) ≡ true → b ≡ true

@@ -3,8 +3,7 @@
 use Rattle.std.proofs.Common.{◌≡◌, ℕ, suc, ◌+◌, refl, ◌∙◌, ap, arith, List, [], ◌∷◌, ◌++◌, if◌then◌else◌, Bool, true, false}
 use Rattle.bus_semantics.specs.declared.entries.Deed.{Deed}
 use Rattle.bus_semantics.specs.declared.entries.Deed.TheVariants as deed
-use Rattle.bus_semantics.specs.History.{count}
-use Rattle.bus_semantics.specs.Wanted.{Wanted, to_enter, to_leave, to_return, wanted_by}
+use Rattle.bus_semantics.specs.Common.{count, Wanted, to_enter, to_leave, to_return, wanted_by}
 use Rattle.history_laws.specs.OpenAreas.{all_but_innermost, open_after, opened_on, open_areas}
 use Rattle.history_laws.specs.Wishes.{is_return}
 

@@ -1,15 +1,9 @@
 -- A return event of a point without a server is never due: no start names such a point, so no activation serves it.
 use Rattle.std.proofs.Common.{◌≡◌, ℕ, Bool, true, false, ◌||◌, not, refl, [], ◌∷◌, None, is_some}
-use Rattle.std.proofs.lemmas.Bool.{and_parts, and_right}
-use Rattle.std.specs.List.{list_all}
-use Rattle.bus_semantics.specs.declared.plan.EventKind.TheVariants.{Returns}
-use Rattle.bus_semantics.specs.declared.entries.Actor.{Actor}
+use Rattle.bus_semantics.specs.Common.{and_parts, and_right, list_all, Plan, kind_of, server_of, History, Noted, Past, noted, returns_to, is_start_by_return_of, follows_last, is_due}
+use Rattle.bus_semantics.specs.Common.{IsLegal, is_proper}
+use Rattle.bus_laws.specs.Common.{Returns, Actor}
 use Rattle.bus_semantics.specs.declared.entries.Deed.TheVariants as deed
-use Rattle.bus_semantics.specs.Plan.{Plan, kind_of, server_of}
-use Rattle.bus_semantics.specs.History.{History, Noted, Past, noted}
-use Rattle.bus_semantics.specs.Due.{returns_to, is_start_by_return_of, follows_last, is_due}
-use Rattle.bus_semantics.specs.Legal.{IsLegal}
-use Rattle.bus_semantics.specs.Locality.{is_proper}
 use Rattle.bus_laws.proofs.Local.{proper_legal}
 use Rattle.bus_laws.proofs.LocalCalls.{nobody_returns}
 

@@ -1,26 +1,11 @@
 -- What the bus answers gives values: its words are those of a value that an entry has, or of none.
 use Rattle.std.proofs.Common.{◌≡◌, ℕ, ◌+◌, ◌≤◌, ℤ, Bool, true, false, if◌then◌else◌, refl, sym, ◌∙◌, ap, arith, List, [], ◌∷◌, length, take, drop, Option, Some, None}
-use Rattle.std.proofs.lemmas.Bool.{le-leb}
-use Rattle.std.proofs.lemmas.List.{length-append, take-append-drop}
-use Rattle.std.proofs.lemmas.Option.{same_Some}
-use Rattle.std.specs.Option.{option_or, option_map_or}
-use Rattle.std.specs.List.{slice_get}
+use Rattle.bus_semantics.specs.Common.{le-leb, length-append, take-append-drop, same_Some, option_or, option_map_or, slice_get, Value, words_of, empty_value, length-words_of, Plan}
+use Rattle.bus_semantics.specs.Common.{server_of, elems_of, words_at, marked, split, Noted, Past, newest, is_in_group, last_in, stored_in, last_stored, value_at, sent_in, sent_to, is_room}
+use Rattle.bus_semantics.specs.Common.{taken_at, places_at, accepted_at, received_at, is_request_at, serves, returned_by, returned_to, is_outstanding, answer_to, result_of}
 use Rattle.std.specs.Prelude.{unwrap_or}
-use Rattle.rte_value.specs.declared.value.Value.{Value}
-use Rattle.rte_value.specs.Values.{words_of}
-use Rattle.rte_value.specs.ShortValues.{empty_value}
-use Rattle.rte_value.specs.EqualValues.{length-words_of}
-use Rattle.bus_semantics.specs.declared.plan.ElemPlan.{ElemPlan}
-use Rattle.bus_semantics.specs.declared.entries.Actor.{Actor}
-use Rattle.bus_semantics.specs.declared.entries.Actor.TheVariants.{Act}
-use Rattle.bus_semantics.specs.declared.entries.Deed.{Deed}
+use Rattle.bus_laws.specs.Common.{ElemPlan, Actor, Act, Deed}
 use Rattle.bus_semantics.specs.declared.entries.Deed.TheVariants as deed
-use Rattle.bus_semantics.specs.Plan.{Plan, server_of}
-use Rattle.bus_semantics.specs.Lists.{elems_of, words_at, marked, split}
-use Rattle.bus_semantics.specs.History.{Noted, Past, newest}
-use Rattle.bus_semantics.specs.Unqueued.{is_in_group, last_in, stored_in, last_stored, value_at}
-use Rattle.bus_semantics.specs.Queued.{sent_in, sent_to, is_room, taken_at, places_at, accepted_at, received_at}
-use Rattle.bus_semantics.specs.Calls.{is_request_at, serves, returned_by, returned_to, is_outstanding, answer_to, result_of}
 use Rattle.history_laws.specs.ValuesOfWords.{value_of}
 use Rattle.bus_laws.proofs.LocalReturns.{newer_returned}
 use Rattle.history_laws.proofs.Lists.{AtEnd, earlier, last, at_end}

@@ -1,27 +1,15 @@
 -- A whole activation of a sound plan asks what it may, whatever is answered, and last its end.
-use Rattle.std.proofs.Common.{◌≡◌, ℕ, suc, ◌-◌, ◌≤◌, ℤ, pos, Bool, true, false, ◌&&◌, if◌then◌else◌, refl, sym, ◌∙◌, ap, subst, arith, List, [], ◌∷◌, ◌++◌, length, replicate, get_or, Option, Some, None, is_some, length-append}
+use Rattle.std.proofs.Common.{◌≡◌, ℕ, suc, ◌-◌, ◌≤◌, ℤ, pos, Bool, true, false, ◌&&◌, if◌then◌else◌, refl, sym, ◌∙◌, ap, subst, arith, List, [], ◌∷◌, ◌++◌, length, replicate, get_or, Option}
+use Rattle.std.proofs.Common.{Some, None, is_some, length-append}
 use Rattle.std.specs.Prelude.{not, ◌==◌, filter, flat_map, option_to_list}
-use Rattle.std.specs.List.{list_any, slice_get}
-use Rattle.std.proofs.lemmas.Bool.{and_parts, false≢true}
-use Rattle.runnable_lang.specs.declared.program.AccessKind.{AccessKind}
+use Rattle.bus_semantics.specs.Common.{list_any, slice_get, and_parts, false≢true, AccessKind, AccessSig, Plan, Runnable, look, disabling_of, Wanted, to_admit, to_fetch, to_publish}
+use Rattle.bus_semantics.specs.Common.{to_fetch_all, to_publish_all, to_return, to_end, elems_of, marked, marks_fit, mask_of, split, elem_fits, is_readable, is_unqueued, State, found_under}
+use Rattle.bus_semantics.specs.Common.{words_under, keep_fetched, keep_each, words_in, Go, Running, both, nothing, calling, takes_nothing, run_program, is_read_early, is_written_late}
+use Rattle.bus_semantics.specs.Common.{arguments_at_start, arguments_of, state_at_start, admitting, Implicit, one, all_of, list_with, met_now, in_order, each, fetches_of, fetching_it}
+use Rattle.bus_semantics.specs.Common.{fetching, publications_of, publishing_one, is_written, publishing_all, publishing_it, publishing, declared_code, results, returning, ending, activity}
+use Rattle.bus_semantics.specs.Common.{is_variable, argument_limits, access_sound, each_access, IsSound}
 use Rattle.runnable_lang.specs.declared.program.AccessKind.TheVariants as kind
-use Rattle.runnable_lang.specs.declared.program.AccessSig.{AccessSig}
-use Rattle.bus_semantics.specs.declared.plan.ArgPlan.{ArgPlan}
-use Rattle.bus_semantics.specs.declared.plan.ServerPlan.{ServerPlan}
-use Rattle.bus_semantics.specs.declared.plan.Disabling.{Disabling}
-use Rattle.bus_semantics.specs.declared.entries.Deed.{Deed}
-use Rattle.bus_semantics.specs.declared.script.Mapping.{Mapping}
-use Rattle.bus_semantics.specs.Plan.{Plan, Runnable, look, disabling_of}
-use Rattle.bus_semantics.specs.Wanted.{Wanted, to_admit, to_fetch, to_publish, to_fetch_all, to_publish_all, to_return, to_end}
-use Rattle.bus_semantics.specs.Lists.{elems_of, marked, marks_fit, mask_of, split}
-use Rattle.bus_semantics.specs.Owners.{elem_fits, is_readable, is_unqueued}
-use Rattle.bus_semantics.specs.State.{State, found_under, words_under, keep_fetched, keep_each, words_in}
-use Rattle.bus_semantics.specs.Programs.{Go, Running, both, nothing, calling, takes_nothing, run_program}
-use Rattle.bus_semantics.specs.Activations.{is_read_early, is_written_late, arguments_at_start, arguments_of, state_at_start, admitting, Implicit, one, all_of, list_with, met_now, in_order, each, fetches_of, fetching_it, fetching, publications_of, publishing_one, is_written, publishing_all, publishing_it, publishing, declared_code, results, returning, ending, activity}
-use Rattle.bus_semantics.specs.SoundPlan.{is_variable}
-use Rattle.bus_semantics.specs.SoundElements.{argument_limits}
-use Rattle.bus_semantics.specs.SoundAccesses.{access_sound, each_access}
-use Rattle.bus_semantics.specs.Sound.{IsSound}
+use Rattle.bus_laws.specs.Common.{ArgPlan, ServerPlan, Disabling, Deed, Mapping}
 use Rattle.history_laws.specs.Given.{are_within, elems_take}
 use Rattle.history_laws.specs.LookUps.{looked}
 use Rattle.history_laws.proofs.SoundServers.{server_is, server_fits}

@@ -1,24 +1,12 @@
 -- What a running activation wants matches the earlier entries of its object, and so does a start.
 use Rattle.std.proofs.Common.{◌≡◌, ℕ, ◌+◌, true, false, ◌||◌, not, ◌==◌, refl, sym, ◌∙◌, ap, subst, Option, Some, None, is_some}
-use Rattle.std.proofs.lemmas.Bool.{eqb-true, false≢true, or_right}
+use Rattle.bus_semantics.specs.Common.{eqb-true, false≢true, or_right, ActKey, same_number, Plan, queue_of, kind_of, disabling_of, runnable_of_event, to_start, to_admit, to_end, wanted_by}
+use Rattle.bus_semantics.specs.Common.{next_of_activity, History, Past, noted, runs, first_server, first_area, first_machine, server_object, machine_object, object_of_kind, disabler_of}
+use Rattle.bus_semantics.specs.Common.{owing, machine_of_event, served_by, touches, entries_of, key_fits, is_open, enters_by, serves_by, serves_any, runs_by, start_matches, matches, IsLegal}
+use Rattle.bus_semantics.specs.Common.{IsSound}
 use Rattle.std.specs.Prelude.{unwrap_or}
-use Rattle.rte_value.specs.declared.kinds.ActKey.{ActKey}
-use Rattle.rte_value.specs.Values.{same_number}
-use Rattle.bus_semantics.specs.declared.plan.EventKind.{EventKind}
-use Rattle.bus_semantics.specs.declared.plan.EventKind.TheVariants.{Timing, Init, DataReceived, Invoked, Returns, ModeSwitch, Ack}
-use Rattle.bus_semantics.specs.declared.script.Mapping.{Mapping}
-use Rattle.bus_semantics.specs.declared.entries.Actor.TheVariants.{Act}
-use Rattle.bus_semantics.specs.declared.entries.Deed.{Deed}
+use Rattle.bus_laws.specs.Common.{EventKind, Timing, Init, DataReceived, Invoked, Returns, ModeSwitch, Ack, Mapping, Act, Deed}
 use Rattle.bus_semantics.specs.declared.entries.Deed.TheVariants as deed
-use Rattle.bus_semantics.specs.Plan.{Plan, queue_of, kind_of, disabling_of, runnable_of_event}
-use Rattle.bus_semantics.specs.Wanted.{to_start, to_admit, to_end, wanted_by}
-use Rattle.bus_semantics.specs.Activations.{next_of_activity}
-use Rattle.bus_semantics.specs.History.{History, Past, noted, runs}
-use Rattle.bus_semantics.specs.Objects.{first_server, first_area, first_machine, server_object, machine_object, object_of_kind, disabler_of, owing, machine_of_event, served_by, touches, entries_of}
-use Rattle.bus_semantics.specs.Owners.{key_fits}
-use Rattle.bus_semantics.specs.Matching.{is_open, enters_by, serves_by, serves_any, runs_by, start_matches, matches}
-use Rattle.bus_semantics.specs.Legal.{IsLegal}
-use Rattle.bus_semantics.specs.Sound.{IsSound}
 use Rattle.bus_laws.proofs.Thinning.{noting, clash}
 use Rattle.bus_laws.proofs.Local.{proper_legal}
 use Rattle.bus_laws.proofs.OneEvent.{invoked_serves, none_disables}

@@ -1,19 +1,11 @@
 -- Words that are clamped lie within limits, and are as many.
 use Rattle.std.proofs.Common.{◌≡◌, ℕ, ◌≤◌, ℤ, pos, negsuc, Bool, true, false, ◌||◌, ◌==◌, cond, if◌then◌else◌, refl, sym, ◌∙◌, ap, subst, arith, List, [], ◌∷◌, length}
 use Rattle.std.specs.Prelude.{int_le, int_lt, nat_lt, nat_le}
-use Rattle.std.specs.Ordering.{int_eq}
+use Rattle.bus_semantics.specs.Common.{int_eq, list_all, list_any, and_from, and_parts, eqb-true, false≢true, leb-true, nat_tests, Limits, same_words, clamped, clamped_each, is_in}
+use Rattle.bus_semantics.specs.Common.{limits_fit, is_within, same_limits, argument_limits, declared_code, results}
 use Rattle.std.specs.Cmp.{signed_Decides}
-use Rattle.std.specs.List.{list_all, list_any}
-use Rattle.std.proofs.lemmas.Bool.{and_from, and_parts, eqb-true, false≢true, leb-true}
-use Rattle.std.proofs.lemmas.Bool.Decides.{nat_tests}
 use Rattle.std.proofs.lemmas.Int.{ints}
-use Rattle.rte_value.specs.declared.kinds.Limits.{Limits}
-use Rattle.rte_value.specs.Values.{same_words}
-use Rattle.rte_value.specs.Arithmetic.{clamped, clamped_each}
 use Rattle.bus_semantics.specs.declared.plan.ArgPlan.{ArgPlan}
-use Rattle.bus_semantics.specs.SoundPlan.{is_in}
-use Rattle.bus_semantics.specs.SoundElements.{limits_fit, is_within, same_limits, argument_limits}
-use Rattle.bus_semantics.specs.Activations.{declared_code, results}
 use Rattle.history_laws.specs.Given.{are_within}
 
 le_clamped : (low high x : ℤ) → int_le low high ≡ true → int_le low (cond (int_lt (cond (int_lt high x) high x) low) low (cond (int_lt high x) high x)) ≡ true

@@ -1,10 +1,6 @@
 -- Who calls a direct activation waits for its end (SWS_RTE: Rte_Call). Histories stand the newest first.
 use Rattle.std.specs.Prelude.{◌≡◌, ℕ, false, Some}
-use Rattle.rte_value.specs.declared.kinds.ActKey.{ActKey}
-use Rattle.bus_semantics.specs.Plan.{Plan, caller_of}
-use Rattle.bus_semantics.specs.History.{History}
-use Rattle.bus_semantics.specs.Actor.{asked_last, ended_since}
-use Rattle.bus_semantics.specs.Rest.{plain_key}
+use Rattle.bus_semantics.specs.Common.{ActKey, Plan, caller_of, History, asked_last, ended_since, plain_key}
 
 -- the last entry of the point's caller is the ask there, and the direct activation has not ended since
 pub record CallerWaits (p : Plan) (point : ℕ) (k : ActKey) (h : History) : Type 0 where

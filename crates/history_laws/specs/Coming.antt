@@ -1,16 +1,8 @@
 -- Which wishes always have an entry that may come after the past of their object, and when the others have one.
 use Rattle.std.specs.Prelude.{◌≡◌, Bool, true, false, Some}
-use Rattle.bus_semantics.specs.declared.entries.Actor.{Actor}
-use Rattle.bus_semantics.specs.declared.script.Mapping.{Mapping}
-use Rattle.bus_semantics.specs.declared.entries.Wish.{Wish}
-use Rattle.bus_semantics.specs.Plan.{Plan}
-use Rattle.bus_semantics.specs.Wanted.{Wanted, to_start, to_admit, to_hear, to_return, to_enter, to_leave, to_move_on, to_end, wanted_of}
-use Rattle.bus_semantics.specs.History.{Noted, Past}
-use Rattle.bus_semantics.specs.Objects.{object_of, touched}
-use Rattle.bus_semantics.specs.Fitting.{wish_fits}
-use Rattle.bus_semantics.specs.Asked.{asks_its_own, MayCome}
-use Rattle.bus_semantics.specs.Pasts.{IsPastOf}
-use Rattle.bus_semantics.specs.Sound.{IsSound}
+use Rattle.bus_laws.specs.Common.{Actor, Mapping, Wish}
+use Rattle.bus_semantics.specs.Common.{Plan, Wanted, to_start, to_admit, to_hear, to_return, to_enter, to_leave, to_move_on, to_end, wanted_of, Noted, Past, object_of, touched, wish_fits}
+use Rattle.bus_semantics.specs.Common.{asks_its_own, MayCome, IsPastOf, IsSound}
 
 -- in a sound plan, a wish that fits its actor and is its own touches an object with this past
 pub record IsAsked (p : Plan) (m : Mapping) (a : Actor) (wish : Wish) (l : Past) : Type 0 where

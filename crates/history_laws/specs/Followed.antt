@@ -1,15 +1,8 @@
 -- Activations of a sound plan, and what one asks after answers that are its own (SWS_RTE: runnable activation). Answers stand the oldest first.
 use Rattle.std.specs.Prelude.{◌≡◌, ℕ, ℤ, List, [], ◌∷◌, ◌++◌, true, Some, slice_get}
-use Rattle.rte_value.specs.declared.kinds.ActKey.{ActKey}
-use Rattle.rte_value.specs.declared.value.Value.{Value}
-use Rattle.bus_semantics.specs.declared.entries.Deed.{Deed}
+use Rattle.bus_semantics.specs.Common.{ActKey, Value, Plan, Runnable, runnable_of_event, Wanted, wanted_by, key_fits, next_of_activity, IsSound}
+use Rattle.bus_laws.specs.Common.{Deed, Mapping}
 use Rattle.bus_semantics.specs.declared.entries.Deed.TheVariants as deed
-use Rattle.bus_semantics.specs.declared.script.Mapping.{Mapping}
-use Rattle.bus_semantics.specs.Plan.{Plan, Runnable, runnable_of_event}
-use Rattle.bus_semantics.specs.Wanted.{Wanted, wanted_by}
-use Rattle.bus_semantics.specs.Owners.{key_fits}
-use Rattle.bus_semantics.specs.Activations.{next_of_activity}
-use Rattle.bus_semantics.specs.Sound.{IsSound}
 
 -- in a sound plan, r is the runnable of a key that fits, and the event is one of its events
 pub record IsActivation (p : Plan) (m : Mapping) (k : ActKey) (r : Runnable) (event : ℕ) : Type 0 where

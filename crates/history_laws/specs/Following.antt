@@ -1,9 +1,7 @@
 -- Answers that are followed, and open areas, one answer further.
 use Rattle.std.proofs.Common.{◌≡◌, ℕ, ℤ, Bool, true, false, true≢false, refl, sym, ◌∙◌, ap, List, [], ◌∷◌, ◌++◌, Some}
 use Rattle.bus_semantics.specs.declared.entries.Deed.{Deed}
-use Rattle.bus_semantics.specs.Plan.{Plan, Runnable}
-use Rattle.bus_semantics.specs.Wanted.{wanted_by}
-use Rattle.bus_semantics.specs.Activations.{next_of_activity}
+use Rattle.bus_semantics.specs.Common.{Plan, Runnable, wanted_by, next_of_activity}
 use Rattle.history_laws.specs.Followed.{Followed}
 use Rattle.history_laws.specs.OpenAreas.{open_after, opened_on, open_areas}
 

@@ -1,14 +1,9 @@
 -- The values that a wish gives, as many words as there are limits and each within its own (Software Component Template: types of data
 -- elements and arguments).
 use Rattle.std.specs.Prelude.{ℕ, ℤ, List, [], ◌∷◌, flat_map, Bool, true, false, ◌&&◌, replicate}
-use Rattle.rte_value.specs.declared.kinds.Limits.{Limits}
-use Rattle.bus_semantics.specs.declared.plan.ElemPlan.{ElemPlan}
-use Rattle.bus_semantics.specs.declared.plan.PointPlan.{PointPlan}
-use Rattle.bus_semantics.specs.Plan.{Plan, Runnable, look}
-use Rattle.bus_semantics.specs.Wanted.{Wanted, to_write, to_send, to_publish, to_publish_all, to_ask, to_return}
-use Rattle.bus_semantics.specs.Lists.{elems_of, marked}
-use Rattle.bus_semantics.specs.Activations.{arguments_of}
-use Rattle.bus_semantics.specs.SoundElements.{is_within, argument_limits}
+use Rattle.bus_semantics.specs.Common.{Limits, Plan, Runnable, look, Wanted, to_write, to_send, to_publish, to_publish_all, to_ask, to_return, elems_of, marked, arguments_of, is_within}
+use Rattle.bus_semantics.specs.Common.{argument_limits}
+use Rattle.bus_laws.specs.Common.{ElemPlan, PointPlan}
 
 -- one word for each of the limits, and within them
 abbrev pub are_within : List Limits → List ℤ → Bool

@@ -1,8 +1,6 @@
 -- Who holds an exclusive area (SWS_RTE: Rte_Enter, Rte_Exit). Histories stand the newest first.
 use Rattle.std.specs.Prelude.{◌≡◌, ℕ, Bool, true, ◌==◌}
-use Rattle.std.specs.List.{list_any}
-use Rattle.rte_value.specs.declared.kinds.ActKey.{ActKey}
-use Rattle.bus_semantics.specs.History.{History, runs}
+use Rattle.bus_semantics.specs.Common.{list_any, ActKey, History, runs}
 use Rattle.history_laws.specs.Running.{areas_of}
 
 -- a running activation entered the area and has not left it

@@ -2,9 +2,7 @@
 use Rattle.std.proofs.Common.{◌≡◌, ℕ, zero, suc, ◌+◌, ◌<◌, Bool, true, false, ◌||◌, refl, sym, ◌∙◌, ap, List, [], ◌∷◌, length, replicate, Some, is_some, unwrap_or, suc-le-suc}
 use Rattle.std.proofs.Math.Nat.{add-zero, zero-add, add_assoc, zero-lt-suc}
 use Rattle.std.proofs.Math.Numerals.{one-add}
-use Rattle.std.specs.List.{list_all, list_any, slice_get}
-use Rattle.std.proofs.lemmas.Bool.{and_from, and_parts, or_from, or_left, or_right, false≢true}
-use Rattle.bus_semantics.specs.Plan.{look, every_from}
+use Rattle.bus_semantics.specs.Common.{list_all, list_any, slice_get, and_from, and_parts, or_from, or_left, or_right, false≢true, look, every_from}
 
 pub clash : {X : Type 0} (b : Bool) → b ≡ true → b ≡ false → X
 clash b t f = absurd (false≢true (sym f ∙ t))

@@ -1,10 +1,9 @@
 -- The exclusive areas that an activation has entered and not left (SWS_RTE: Rte_Enter, Rte_Exit). Areas stand the innermost first, answers the
 -- oldest first.
 use Rattle.std.specs.Prelude.{ℕ, List, [], ◌∷◌, Bool, true, false, ◌&&◌, nat_lt, Option, Some, None}
-use Rattle.std.specs.List.{list_all}
+use Rattle.bus_semantics.specs.Common.{list_all, Wanted, to_ask, to_hear, to_publish, to_publish_all, to_return, to_end}
 use Rattle.bus_semantics.specs.declared.entries.Deed.{Deed}
 use Rattle.bus_semantics.specs.declared.entries.Deed.TheVariants as deed
-use Rattle.bus_semantics.specs.Wanted.{Wanted, to_ask, to_hear, to_publish, to_publish_all, to_return, to_end}
 
 abbrev pub all_but_innermost : List ℕ → List ℕ
 all_but_innermost [] = []

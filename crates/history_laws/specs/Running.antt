@@ -1,17 +1,9 @@
 -- A running activation in a history: what started it, what it did since, and what it wants next (SWS_RTE: runnable activation). Histories
 -- stand the newest first, the deeds of an activation the oldest first.
 use Rattle.std.specs.Prelude.{◌≡◌, ℕ, List, [], true, not, if◌then◌else◌, Some, slice_get}
-use Rattle.std.specs.List.{list_all}
-use Rattle.std.specs.Option.{option_map_or}
-use Rattle.rte_value.specs.declared.kinds.ActKey.{ActKey}
+use Rattle.bus_semantics.specs.Common.{list_all, option_map_or, ActKey, Plan, Runnable, runnable_of_event, Wanted, History, is_over, runs, last_started, key_fits, wish_fits, asks_its_own}
+use Rattle.bus_semantics.specs.Common.{Activation, activation_of, next_wish}
 use Rattle.bus_semantics.specs.declared.entries.Actor.TheVariants.{Act}
-use Rattle.bus_semantics.specs.Plan.{Plan, Runnable, runnable_of_event}
-use Rattle.bus_semantics.specs.Wanted.{Wanted}
-use Rattle.bus_semantics.specs.History.{History, is_over, runs, last_started}
-use Rattle.bus_semantics.specs.Owners.{key_fits}
-use Rattle.bus_semantics.specs.Fitting.{wish_fits}
-use Rattle.bus_semantics.specs.Asked.{asks_its_own}
-use Rattle.bus_semantics.specs.Actor.{Activation, activation_of, next_wish}
 use Rattle.history_laws.specs.Followed.{AsksNext}
 use Rattle.history_laws.specs.OpenAreas.{open_areas}
 

@@ -1,13 +1,7 @@
 -- What became of a request that nothing was returned for yet (SWS_RTE: Rte_Call). Histories stand the newest first.
 use Rattle.std.specs.Prelude.{◌≡◌, ℕ, true, false, ◌==◌, Some, None}
-use Rattle.rte_value.specs.declared.kinds.ActKey.{ActKey}
-use Rattle.rte_value.specs.Values.{same_number}
+use Rattle.bus_semantics.specs.Common.{ActKey, same_number, Plan, server_of, History, runs, noted, caller_has_asked, serves, has_unstarted, is_outstanding, returned_to, is_open, serves_by}
 use Rattle.bus_semantics.specs.declared.entries.Actor.TheVariants.{Act}
-use Rattle.bus_semantics.specs.Plan.{Plan, server_of}
-use Rattle.bus_semantics.specs.History.{History, runs, noted}
-use Rattle.bus_semantics.specs.Actor.{caller_has_asked}
-use Rattle.bus_semantics.specs.Calls.{serves, has_unstarted, is_outstanding, returned_to}
-use Rattle.bus_semantics.specs.Matching.{is_open, serves_by}
 
 -- the point's last request is neither taken nor returned
 pub record IsOpen (point : ℕ) (h : History) : Type 0 where

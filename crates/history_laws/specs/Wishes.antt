@@ -1,10 +1,8 @@
 -- Kinds of wishes and answers (SWS_RTE: Rte_Call, Rte_Result, runnable activation).
 use Rattle.std.specs.Prelude.{ℕ, Bool, true, false, not}
-use Rattle.bus_semantics.specs.declared.plan.PointPlan.{PointPlan}
-use Rattle.bus_semantics.specs.declared.entries.Deed.{Deed}
+use Rattle.bus_laws.specs.Common.{PointPlan, Deed}
 use Rattle.bus_semantics.specs.declared.entries.Deed.TheVariants as deed
-use Rattle.bus_semantics.specs.Plan.{Plan, look}
-use Rattle.bus_semantics.specs.Wanted.{Wanted, to_ask, to_hear, to_take_result, to_end}
+use Rattle.bus_semantics.specs.Common.{Plan, look, Wanted, to_ask, to_hear, to_take_result, to_end}
 
 -- to call an operation, to hear its answer or to take its result
 abbrev pub is_of_a_call : Wanted → Bool

@@ -1,16 +1,8 @@
 //! The law of exclusive areas.
 
 ghost use Rattle.std.specs.Prelude.{◌≡◌, ◌+◌, ℕ, true};
-ghost use Rattle.rte_value.specs.declared.kinds.ActKey.{ActKey};
-ghost use Rattle.bus_semantics.specs.declared.script.Mapping.{Mapping};
-ghost use Rattle.bus_semantics.specs.declared.entries.Actor.TheVariants.{Act};
-ghost use Rattle.bus_semantics.specs.Plan.{Plan};
-ghost use Rattle.bus_semantics.specs.History.{History, noted};
-ghost use Rattle.bus_semantics.specs.Areas.{is_held};
-ghost use Rattle.bus_semantics.specs.Objects.{first_area, entries_of};
-ghost use Rattle.bus_semantics.specs.Matching.{is_open, enters_by};
-ghost use Rattle.bus_semantics.specs.Legal.{IsLegal};
-ghost use Rattle.bus_semantics.specs.Sound.{IsSound};
+ghost use Rattle.bus_semantics.specs.Common.{ActKey, Plan, History, noted, is_held, first_area, entries_of, is_open, enters_by, IsLegal, IsSound};
+ghost use Rattle.bus_laws.specs.Common.{Mapping, Act};
 ghost use Rattle.history_laws.specs.Holding.{HasHolder, is_inside};
 
 /// An area is held exactly if a running activation is inside, which is then the only one; its Enter is the last entry of the

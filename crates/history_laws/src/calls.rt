@@ -1,20 +1,9 @@
 //! The law of calls: which wishes have an entry that may come.
 
 ghost use Rattle.std.specs.Prelude.{◌≡◌, ℕ, true, false, is_some};
-ghost use Rattle.rte_value.specs.declared.kinds.Step.{Step};
-ghost use Rattle.rte_value.specs.declared.value.Value.{Value};
-ghost use Rattle.bus_semantics.specs.declared.script.Mapping.{Mapping};
-ghost use Rattle.bus_semantics.specs.declared.entries.Actor.{Actor};
-ghost use Rattle.bus_semantics.specs.declared.entries.Wish.{Wish};
+ghost use Rattle.bus_semantics.specs.Common.{Step, Value, Plan, kind_of, wanted_of, Past, is_held, answer_to, phase_may_come, is_due, start_matches, is_open, enters_by, serves_by, runs_by};
+ghost use Rattle.bus_laws.specs.Common.{Mapping, Actor, Wish};
 ghost use Rattle.bus_semantics.specs.declared.entries.Wish.TheVariants as wish;
-ghost use Rattle.bus_semantics.specs.Plan.{Plan, kind_of};
-ghost use Rattle.bus_semantics.specs.Wanted.{wanted_of};
-ghost use Rattle.bus_semantics.specs.History.{Past};
-ghost use Rattle.bus_semantics.specs.Areas.{is_held};
-ghost use Rattle.bus_semantics.specs.Calls.{answer_to};
-ghost use Rattle.bus_semantics.specs.Phases.{phase_may_come};
-ghost use Rattle.bus_semantics.specs.Due.{is_due};
-ghost use Rattle.bus_semantics.specs.Matching.{start_matches, is_open, enters_by, serves_by, runs_by};
 ghost use Rattle.history_laws.specs.Coming.{IsAsked, Comes, may_be_held};
 
 /// An entry of a wish that fits always may come, unless it is a start, an admission, the hearing of an answer, a return, an

@@ -1,16 +1,8 @@
 //! Laws of what may come after the past of an object.
 
 ghost use Rattle.std.specs.Prelude.{◌≡◌, ℕ, false, None};
-ghost use Rattle.bus_semantics.specs.declared.script.Mapping.{Mapping};
-ghost use Rattle.bus_semantics.specs.declared.entries.Actor.{Actor};
-ghost use Rattle.bus_semantics.specs.declared.plan.EventKind.TheVariants.{Returns};
-ghost use Rattle.bus_semantics.specs.Plan.{Plan, kind_of, server_of};
-ghost use Rattle.bus_semantics.specs.Wanted.{Wanted};
-ghost use Rattle.bus_semantics.specs.History.{History, Noted, Past, noted};
-ghost use Rattle.bus_semantics.specs.Due.{is_due};
-ghost use Rattle.bus_semantics.specs.Legal.{IsLegal};
-ghost use Rattle.bus_semantics.specs.Asked.{MayCome};
-ghost use Rattle.bus_semantics.specs.Sound.{IsSound};
+ghost use Rattle.bus_laws.specs.Common.{Mapping, Actor, Returns};
+ghost use Rattle.bus_semantics.specs.Common.{Plan, kind_of, server_of, Wanted, History, Noted, Past, noted, is_due, IsLegal, MayCome, IsSound};
 
 /// Of one wish of an actor at most one entry may come after the past of an object. (An admission and an end are wished with
 /// the event that started the activation.)

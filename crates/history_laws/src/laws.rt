@@ -1,22 +1,9 @@
 //! Laws of what an activation asks of the bus.
 
 ghost use Rattle.std.specs.Prelude.{◌≡◌, ℕ, ℤ, List, [], length, nat_lt, nat_le, not, if◌then◌else◌, true, false, Some, None, is_some, ◌||◌};
-ghost use Rattle.std.specs.List.{list_all};
-ghost use Rattle.rte_value.specs.declared.kinds.ActKey.{ActKey};
-ghost use Rattle.rte_value.specs.declared.value.Value.{Value};
-ghost use Rattle.rte_value.specs.Values.{words_of};
-ghost use Rattle.bus_semantics.specs.declared.entries.Actor.TheVariants.{Act};
-ghost use Rattle.bus_semantics.specs.declared.entries.Deed.{Deed};
-ghost use Rattle.bus_semantics.specs.declared.plan.Disabling.{Disabling};
-ghost use Rattle.bus_semantics.specs.declared.script.Mapping.{Mapping};
-ghost use Rattle.bus_semantics.specs.Plan.{Plan, Runnable, disabling_of};
-ghost use Rattle.bus_semantics.specs.Wanted.{Wanted, to_admit, to_hear, to_return, to_enter, to_leave, to_end};
-ghost use Rattle.bus_semantics.specs.History.{count, is_over};
-ghost use Rattle.bus_semantics.specs.Objects.{object_of};
-ghost use Rattle.bus_semantics.specs.Owners.{serves_directly};
-ghost use Rattle.bus_semantics.specs.Fitting.{wish_fits};
-ghost use Rattle.bus_semantics.specs.Asked.{is_start, asks_its_own};
-ghost use Rattle.bus_semantics.specs.Activations.{next_of_activity};
+ghost use Rattle.bus_semantics.specs.Common.{list_all, ActKey, Value, words_of, Plan, Runnable, disabling_of, Wanted, to_admit, to_hear, to_return, to_enter, to_leave, to_end, count};
+ghost use Rattle.bus_semantics.specs.Common.{is_over, object_of, serves_directly, wish_fits, is_start, asks_its_own, next_of_activity};
+ghost use Rattle.bus_laws.specs.Common.{Act, Deed, Disabling, Mapping};
 ghost use Rattle.history_laws.specs.Followed.{IsActivation, Followed, AsksNext, HasJustAsked};
 ghost use Rattle.history_laws.specs.OpenAreas.{open_areas, innermost, are_nested, comes_outside};
 ghost use Rattle.history_laws.specs.Given.{gives_what_fits, words_given};

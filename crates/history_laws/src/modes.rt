@@ -1,12 +1,7 @@
 //! The law of disabled modes.
 
 ghost use Rattle.std.specs.Prelude.{◌≡◌, ℕ, true, false, Some};
-ghost use Rattle.bus_semantics.specs.Plan.{Plan};
-ghost use Rattle.bus_semantics.specs.History.{History, noted};
-ghost use Rattle.bus_semantics.specs.Modes.{waits_of, stage_of, closes_of, is_close};
-ghost use Rattle.bus_semantics.specs.Objects.{disabler_of};
-ghost use Rattle.bus_semantics.specs.Admission.{admitted_runs, is_disabled};
-ghost use Rattle.bus_semantics.specs.Legal.{IsLegal};
+ghost use Rattle.bus_semantics.specs.Common.{Plan, History, noted, waits_of, stage_of, closes_of, is_close, disabler_of, admitted_runs, is_disabled, IsLegal};
 
 /// No admitted activation runs whose event its machine disables: of a machine that waits, from each Exit up to the next
 /// Close; of every machine, before its first Close (SWS_RTE: ModeDisablingDependency). An event is disabled by the mode of a

@@ -1,21 +1,9 @@
 //! The laws of parts: the entries of a legal history, object by object.
 
 ghost use Rattle.std.specs.Prelude.{◌≡◌, ℕ, true, false, Some, unwrap_or};
-ghost use Rattle.rte_value.specs.declared.kinds.ActKey.{ActKey};
-ghost use Rattle.bus_semantics.specs.declared.script.Mapping.{Mapping};
-ghost use Rattle.bus_semantics.specs.declared.entries.Actor.{Actor};
-ghost use Rattle.bus_semantics.specs.declared.entries.Actor.TheVariants.{Act};
-ghost use Rattle.bus_semantics.specs.Plan.{Plan, kind_of};
-ghost use Rattle.bus_semantics.specs.Wanted.{Wanted, to_start, wanted_by};
-ghost use Rattle.bus_semantics.specs.History.{History, Noted, needs_event};
-ghost use Rattle.bus_semantics.specs.Objects.{object_of, touched, touches, entries_of};
-ghost use Rattle.bus_semantics.specs.Owners.{key_fits};
-ghost use Rattle.bus_semantics.specs.Actor.{next_wish, may_start, is_held_back, follows_program};
-ghost use Rattle.bus_semantics.specs.Legal.{MayFollow, IsLegal};
-ghost use Rattle.bus_semantics.specs.Matching.{start_matches, matches};
-ghost use Rattle.bus_semantics.specs.Pasts.{IsPastOf};
-ghost use Rattle.bus_semantics.specs.Asked.{MayCome};
-ghost use Rattle.bus_semantics.specs.Sound.{IsSound};
+ghost use Rattle.bus_semantics.specs.Common.{ActKey, Plan, kind_of, Wanted, to_start, wanted_by, History, Noted, needs_event, object_of, touched, touches, entries_of, key_fits, next_wish};
+ghost use Rattle.bus_semantics.specs.Common.{may_start, is_held_back, follows_program, MayFollow, IsLegal, start_matches, matches, IsPastOf, MayCome, IsSound};
+ghost use Rattle.bus_laws.specs.Common.{Mapping, Actor, Act};
 
 /// The entries of a legal history that touch an object are a past of it; so each matches those before it.
 pub fn legal_histories_part_into_objects()

@@ -1,12 +1,8 @@
 //! The law of running activations.
 
 ghost use Rattle.std.specs.Prelude.{◌≡◌, true};
-ghost use Rattle.rte_value.specs.declared.kinds.ActKey.{ActKey};
+ghost use Rattle.bus_semantics.specs.Common.{ActKey, Plan, History, runs, IsLegal, IsSound};
 ghost use Rattle.bus_semantics.specs.declared.script.Mapping.{Mapping};
-ghost use Rattle.bus_semantics.specs.Plan.{Plan};
-ghost use Rattle.bus_semantics.specs.History.{History, runs};
-ghost use Rattle.bus_semantics.specs.Legal.{IsLegal};
-ghost use Rattle.bus_semantics.specs.Sound.{IsSound};
 ghost use Rattle.history_laws.specs.Running.{GoesOn};
 
 /// A running activation was started by an event of its runnable, was answered what it asked since, and has a next wish,

@@ -1,17 +1,9 @@
 //! Laws of calls: what becomes of requests, and who waits for an answer.
 
 ghost use Rattle.std.specs.Prelude.{◌≡◌, ◌==◌, ℕ, true, Some, slice_get};
-ghost use Rattle.rte_value.specs.declared.kinds.ActKey.{ActKey};
-ghost use Rattle.bus_semantics.specs.declared.plan.ServerPlan.{ServerPlan};
-ghost use Rattle.bus_semantics.specs.declared.script.Mapping.{Mapping};
-ghost use Rattle.bus_semantics.specs.Plan.{Plan, server_of};
-ghost use Rattle.bus_semantics.specs.History.{History, noted, runs};
-ghost use Rattle.bus_semantics.specs.Wanted.{to_hear};
-ghost use Rattle.bus_semantics.specs.Actor.{next_wish, direct_key, asked_last, caller_has_asked};
-ghost use Rattle.bus_semantics.specs.Rest.{plain_key};
-ghost use Rattle.bus_semantics.specs.Calls.{has_unstarted, is_outstanding};
-ghost use Rattle.bus_semantics.specs.Legal.{IsLegal};
-ghost use Rattle.bus_semantics.specs.Sound.{IsSound};
+ghost use Rattle.bus_semantics.specs.Common.{ActKey, Plan, server_of, History, noted, runs, to_hear, next_wish, direct_key, asked_last, caller_has_asked, plain_key, has_unstarted};
+ghost use Rattle.bus_semantics.specs.Common.{is_outstanding, IsLegal, IsSound};
+ghost use Rattle.bus_laws.specs.Common.{ServerPlan, Mapping};
 ghost use Rattle.history_laws.specs.Callers.{CallerWaits};
 ghost use Rattle.history_laws.specs.Serving.{IsOpen, IsQueuedOrServed, IsBegunOrServed};
 

@@ -2,15 +2,13 @@
 use Rattle.std.proofs.Common.{◌≡◌, ℕ, zero, suc, ℤ, pos, List, [], ◌∷◌, Bool, true, false, if◌then◌else◌, refl, subst}
 use Rattle.std.specs.Prelude.{⊤}
 use Prim.{tt}
-use Rattle.std.specs.Ordering.{int_eq}
+use Rattle.bus_semantics.specs.Common.{int_eq, StmtTree, sets, chooses, repeats, in_area, writes, reads, invalidates, asks_updated, sends, receives, writes_late, reads_early}
+use Rattle.bus_semantics.specs.Common.{writes_variable, reads_variable, writes_variable_late, reads_variable_early, calls, calls_and_goes_on, takes_result, switches, asks_mode, BodyTree}
+use Rattle.bus_semantics.specs.Common.{done, next, worth, Runnable, Wanted, to_write, to_read, to_invalidate, to_see_updated, to_send, to_receive, to_ask, to_hear, to_take_result, to_enter}
+use Rattle.bus_semantics.specs.Common.{to_leave, to_switch, to_see_mode, State, code_in, access, given, Outcome, Stop, Go, Running, goes_on, both, calling, times, takes_nothing, takes_zero}
+use Rattle.bus_semantics.specs.Common.{takes_code, takes_number, takes_value, takes_words, hears, asking_and_hearing, running, running_body, run_program}
 use Rattle.runnable_lang.specs.declared.program.AccessKind.TheVariants as kind
-use Rattle.runnable_lang.specs.Trees.{StmtTree, sets, chooses, repeats, in_area, writes, reads, invalidates, asks_updated, sends, receives, writes_late, reads_early, writes_variable, reads_variable, writes_variable_late, reads_variable_early, calls, calls_and_goes_on, takes_result, switches, asks_mode, BodyTree, done, next}
-use Rattle.runnable_lang.specs.Expressions.{worth}
 use Rattle.bus_semantics.specs.declared.entries.Deed.{Deed}
-use Rattle.bus_semantics.specs.Plan.{Runnable}
-use Rattle.bus_semantics.specs.Wanted.{Wanted, to_write, to_read, to_invalidate, to_see_updated, to_send, to_receive, to_ask, to_hear, to_take_result, to_enter, to_leave, to_switch, to_see_mode}
-use Rattle.bus_semantics.specs.State.{State, code_in, access, given}
-use Rattle.bus_semantics.specs.Programs.{Outcome, Stop, Go, Running, goes_on, both, calling, times, takes_nothing, takes_zero, takes_code, takes_number, takes_value, takes_words, hears, asking_and_hearing, running, running_body, run_program}
 
 abbrev pub Leaves : List (ℕ × List ℤ) → Outcome → Type 0
 Leaves fetched (Stop w) = ⊤

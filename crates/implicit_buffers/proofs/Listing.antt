@@ -1,13 +1,8 @@
 -- Lists by their elements, and what is met of them.
-use Rattle.std.proofs.Common.{◌≡◌, ℕ, zero, suc, ◌+◌, ◌<◌, ◌≤◌, List, [], ◌∷◌, ◌++◌, take, drop, length, get_or, Bool, true, false, ◌||◌, if◌then◌else◌, cond, Option, Some, None, ◌⊎◌, inl, inr, refl, sym, ap, ◌∙◌, arith, append_assoc}
+use Rattle.std.proofs.Common.{◌≡◌, ℕ, zero, suc, ◌+◌, ◌<◌, ◌≤◌, List, [], ◌∷◌, ◌++◌, take, drop, length, get_or, Bool, true, false, ◌||◌, if◌then◌else◌, cond, Option, Some, None, ◌⊎◌, inl}
+use Rattle.std.proofs.Common.{inr, refl, sym, ap, ◌∙◌, arith, append_assoc}
 use Rattle.std.specs.Prelude.{◌==◌, nat_eq, option_to_list}
-use Rattle.std.specs.List.{list_any}
-use Rattle.std.proofs.lemmas.List.{append-nil, drop_more, drop_all}
-use Rattle.runnable_lang.specs.declared.program.AccessKind.{AccessKind}
-use Rattle.runnable_lang.specs.declared.program.AccessSig.{AccessSig}
-use Rattle.bus_semantics.specs.Plan.{Plan}
-use Rattle.bus_semantics.specs.Lists.{elems_of}
-use Rattle.bus_semantics.specs.Activations.{Implicit, list_with, met_now, in_order}
+use Rattle.bus_semantics.specs.Common.{list_any, append-nil, drop_more, drop_all, AccessKind, AccessSig, Plan, elems_of, Implicit, list_with, met_now, in_order}
 use Rattle.implicit_buffers.specs.Fetchings.{now_met, first_met, in_turn}
 
 -- ---- one element of a list more

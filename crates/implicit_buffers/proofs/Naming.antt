@@ -1,7 +1,6 @@
 -- One access more.
 use Rattle.std.proofs.Common.{◌≡◌, ℕ, List, [], ◌∷◌, ◌++◌, Bool, true, false, ◌⊎◌, inl, inr, if◌then◌else◌, refl, sym, ap, ◌∙◌, append_assoc}
-use Rattle.runnable_lang.specs.declared.program.AccessKind.{AccessKind}
-use Rattle.runnable_lang.specs.declared.program.AccessSig.{AccessSig}
+use Rattle.bus_semantics.specs.Common.{AccessKind, AccessSig}
 use Rattle.implicit_buffers.specs.Buffers.{named}
 
 one_more : (test : AccessKind → Bool) (a : AccessSig) (sigs : List AccessSig) (x : ℕ) (xs : List ℕ) → named test (a ∷ []) (x ∷ []) ++ named test sigs xs ≡ named test (a ∷ sigs) (x ∷ xs)

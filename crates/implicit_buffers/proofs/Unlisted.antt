@@ -1,12 +1,7 @@
 -- Activations of a runnable without coherent lists fetch and publish element by element, in declared order.
 use Rattle.std.proofs.Common.{◌≡◌, ℕ, List, [], ◌∷◌, map, Bool, true, false, if◌then◌else◌, refl, ap, ◌∙◌}
-use Rattle.runnable_lang.specs.declared.program.AccessKind.{AccessKind}
-use Rattle.runnable_lang.specs.declared.program.AccessSig.{AccessSig}
-use Rattle.bus_semantics.specs.Plan.{Plan, Runnable}
-use Rattle.bus_semantics.specs.Wanted.{to_fetch}
-use Rattle.bus_semantics.specs.State.{keep_fetched, words_in}
-use Rattle.bus_semantics.specs.Programs.{both, calling}
-use Rattle.bus_semantics.specs.Activations.{Implicit, one, in_order, is_read_early, is_written_late, fetches_of, publications_of, each, fetching_it, fetching, publishing_it, publishing, publishing_one}
+use Rattle.bus_semantics.specs.Common.{AccessKind, AccessSig, Plan, Runnable, to_fetch, keep_fetched, words_in, both, calling, Implicit, one, in_order, is_read_early, is_written_late}
+use Rattle.bus_semantics.specs.Common.{fetches_of, publications_of, each, fetching_it, fetching, publishing_it, publishing, publishing_one}
 use Rattle.implicit_buffers.specs.Buffers.{named, fetched_by, published_by, fetching_each, publishing_each}
 
 -- ---- one after the other

@@ -1,13 +1,7 @@
 -- The elements that a runnable fetches and publishes, in declared order (SWS_RTE: implicit access by Rte_IRead, Rte_IWrite, Rte_IrvIRead,
 -- Rte_IrvIWrite).
 use Rattle.std.specs.Prelude.{ℕ, List, [], ◌∷◌, Bool, if◌then◌else◌}
-use Rattle.runnable_lang.specs.declared.program.AccessKind.{AccessKind}
-use Rattle.runnable_lang.specs.declared.program.AccessSig.{AccessSig}
-use Rattle.bus_semantics.specs.Plan.{Runnable}
-use Rattle.bus_semantics.specs.Wanted.{to_fetch}
-use Rattle.bus_semantics.specs.State.{keep_fetched, words_in}
-use Rattle.bus_semantics.specs.Programs.{Running, nothing, both, calling}
-use Rattle.bus_semantics.specs.Activations.{is_read_early, is_written_late, publishing_one}
+use Rattle.bus_semantics.specs.Common.{AccessKind, AccessSig, Runnable, to_fetch, keep_fetched, words_in, Running, nothing, both, calling, is_read_early, is_written_late, publishing_one}
 
 -- the kinds of access that fetch, or else those that publish
 abbrev pub is_implicit : (fetches : Bool) → AccessKind → Bool

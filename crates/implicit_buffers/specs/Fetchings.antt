@@ -1,10 +1,7 @@
 -- What a runnable fetches or publishes at once, in declared order: an element that is in no coherent list, or a list that was not met
 -- before.
 use Rattle.std.specs.Prelude.{ℕ, List, [], ◌∷◌, ◌++◌, map, Bool, true, ◌==◌, if◌then◌else◌, Option, Some, None}
-use Rattle.runnable_lang.specs.declared.program.AccessKind.{AccessKind}
-use Rattle.runnable_lang.specs.declared.program.AccessSig.{AccessSig}
-use Rattle.bus_semantics.specs.Plan.{Plan}
-use Rattle.bus_semantics.specs.Activations.{Implicit, one, all_of, list_with}
+use Rattle.bus_semantics.specs.Common.{AccessKind, AccessSig, Plan, Implicit, one, all_of, list_with}
 use Rattle.implicit_buffers.specs.declared.fetchings.Fetching.{Fetching}
 use Rattle.implicit_buffers.specs.declared.fetchings.Fetching.TheVariants as fetching
 

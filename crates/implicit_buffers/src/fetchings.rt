@@ -1,11 +1,9 @@
 //! What runnables fetch and publish at once: elements, and coherent lists.
 
 ghost use Rattle.std.specs.Prelude.{◌≡◌, ◌++◌, ◌∷◌, [], ℕ, IfOk, OnOk, Some, nat_eq, if◌then◌else◌, ◌==◌};
-ghost use Rattle.std.specs.List.{list_any};
+ghost use Rattle.bus_semantics.specs.Common.{list_any, plan_of, runnable_of, list_with, in_order, fetches_of, publications_of};
 ghost use Rattle.indexmap.specs.IndexMap.{get};
 ghost use Rattle.indexmap.specs.IndexSet.{contains};
-ghost use Rattle.bus_semantics.specs.Plan.{plan_of, runnable_of};
-ghost use Rattle.bus_semantics.specs.Activations.{list_with, in_order, fetches_of, publications_of};
 ghost use Rattle.implicit_buffers.specs.Buffers.{is_implicit};
 ghost use Rattle.implicit_buffers.specs.Fetchings.{implicits_of, now_met, first_met};
 

@@ -2,12 +2,9 @@
 
 ghost use Rattle.std.specs.Prelude.{◌≡◌, ℕ, List, [], map};
 ghost use Rattle.runnable_lang.specs.declared.program.AccessKind.TheVariants.{IRead, IrvIRead};
-ghost use Rattle.runnable_lang.specs.Trees.{BodyTree, reads_early, reads_variable_early};
+ghost use Rattle.bus_semantics.specs.Common.{BodyTree, reads_early, reads_variable_early, Plan, Runnable, State, access, put_all, words_under, Go, running, run_program, one, fetches_of};
+ghost use Rattle.bus_semantics.specs.Common.{publications_of, fetching, publishing};
 ghost use Rattle.bus_semantics.specs.declared.entries.Deed.{Deed};
-ghost use Rattle.bus_semantics.specs.Plan.{Plan, Runnable};
-ghost use Rattle.bus_semantics.specs.State.{State, access, put_all, words_under};
-ghost use Rattle.bus_semantics.specs.Programs.{Go, running, run_program};
-ghost use Rattle.bus_semantics.specs.Activations.{one, fetches_of, publications_of, fetching, publishing};
 ghost use Rattle.implicit_buffers.specs.Buffers.{fetched_by, published_by, fetching_each, publishing_each};
 
 /// An activation of a runnable without coherent lists fetches the fetched elements of its runnable, one after the other, in declared

@@ -1,8 +1,7 @@
 //! The elements that runnables fetch and publish.
 
 ghost use Rattle.std.specs.Prelude.{◌≡◌, ◌++◌, ◌∷◌, [], IfOk, OnOk, map};
-ghost use Rattle.bus_semantics.specs.Plan.{plan_of, runnable_of};
-ghost use Rattle.bus_semantics.specs.Activations.{is_read_early, is_written_late};
+ghost use Rattle.bus_semantics.specs.Common.{plan_of, runnable_of, is_read_early, is_written_late};
 ghost use Rattle.implicit_buffers.specs.Buffers.{is_implicit, named, fetched_by, published_by};
 
 use crate::Memory;

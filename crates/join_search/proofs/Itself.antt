@@ -5,22 +5,9 @@ use Rattle.std.proofs.lemmas.Bool.Decides.{Decides-int_eq}
 use Rattle.std.proofs.lemmas.Slice.Eq.{bytes_eq-Decides}
 use Rattle.std.specs.Cmp.Lexicographic.{pointwise}
 use Rattle.std.specs.List.{list_all, list_any}
-use Rattle.description_types.specs.declared.base_type.DataType.{DataType}
-use Rattle.description_types.specs.declared.interface.ApplicationError.{ApplicationError}
-use Rattle.description_types.specs.declared.interface.Argument.{Argument}
-use Rattle.description_types.specs.declared.interface.DataElement.{DataElement}
-use Rattle.description_types.specs.declared.interface.Direction.{Direction}
-use Rattle.description_types.specs.declared.interface.Direction.TheVariants.{In, Out}
-use Rattle.description_types.specs.declared.interface.Interface.{Interface}
-use Rattle.description_types.specs.declared.interface.InterfaceKind.{InterfaceKind}
-use Rattle.description_types.specs.declared.interface.InterfaceKind.TheVariants.{SenderReceiver, ClientServer, ModeSwitch}
-use Rattle.description_types.specs.declared.interface.ModeGroup.{ModeGroup}
-use Rattle.description_types.specs.declared.interface.Operation.{Operation}
-use Rattle.description_types.specs.declared.interface.SwImplPolicy.{SwImplPolicy}
-use Rattle.description_types.specs.declared.interface.SwImplPolicy.TheVariants.{Standard, Queued}
-use Rattle.description_types.specs.declared.interface.TypeTable.{TypeTable}
-use Rattle.plan_definitions.specs.Types.{agree, are_compatible_types, base_number, types_agree}
-use Rattle.plan_definitions.specs.Interfaces.{same_policy, same_direction, serves_element, same_argument, same_error, declares_errors, serves_operation, same_modes, serves, serves_in, are_compatible}
+use Rattle.plan_definitions.specs.Common.{DataType, ApplicationError, Argument, DataElement, Direction, In, Out, Interface, InterfaceKind, SenderReceiver, ClientServer, ModeSwitch}
+use Rattle.plan_definitions.specs.Common.{ModeGroup, Operation, SwImplPolicy, Standard, Queued, TypeTable, agree, are_compatible_types, base_number, types_agree, same_policy, same_direction}
+use Rattle.plan_definitions.specs.Common.{serves_element, same_argument, same_error, declares_errors, serves_operation, same_modes, serves, serves_in, are_compatible}
 
 same_bytes : (xs : List ℕ) → bytes_eq xs xs ≡ true
 same_bytes xs = (bytes_eq-Decides xs xs).1 refl

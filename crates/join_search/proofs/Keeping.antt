@@ -1,14 +1,14 @@
 -- What is kept of partners.
-use Rattle.std.proofs.Common.{◌≡◌, ℕ, zero, suc, ◌+◌, ◌<◌, ◌≤◌, List, [], ◌∷◌, length, get_or, drop, map, filter, Bool, true, false, cond, ◌&&◌, ◌||◌, not, Option, Some, None, refl, sym, ap, ◌∙◌, arith, add-one}
+use Rattle.std.proofs.Common.{◌≡◌, ℕ, zero, suc, ◌+◌, ◌<◌, ◌≤◌, List, [], ◌∷◌, length, get_or, drop, map, filter, Bool, true, false, cond, ◌&&◌, ◌||◌, not, Option, Some, None, refl, sym, ap}
+use Rattle.std.proofs.Common.{◌∙◌, arith, add-one}
 use Rattle.std.specs.Prelude.{is_none as is_absent}
 use Rattle.std.proofs.lemmas.Bool.{and_parts}
 use Rattle.std.specs.List.{list_all, list_any}
 use Rattle.std.specs.Map.{lookup, values_of}
 use Rattle.std.specs.Option.{option_map_or, unwrap_or}
-use Rattle.description_types.specs.declared.flat.End.{End}
-use Rattle.description_types.specs.declared.flat.Join.{Join}
+use Rattle.plan_definitions.specs.Common.{End, Join, are_several}
 use Rattle.join_search.specs.declared.partners.Partners.{Partners}
-use Rattle.plan_definitions.specs.Joins.{same_end, partners, are_several}
+use Rattle.plan_definitions.specs.Joins.{same_end, partners}
 use Rattle.join_search.specs.Partners.{added, has_several, summary, with_one, key_of, same_key, Key}
 use Rattle.plan_definitions.proofs.Keys.{same_end_is, same_end_refl}
 

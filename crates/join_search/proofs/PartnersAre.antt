@@ -2,10 +2,9 @@
 use Rattle.std.proofs.Common.{◌≡◌, ◌≢◌, List, [], ◌∷◌, map, filter, Bool, true, false, cond, ◌||◌, not, ◌⊎◌, inl, inr, ⊎_elim, refl, sym, ap, subst, ◌∙◌, true≢false}
 use Rattle.std.proofs.lemmas.Bool.{or_cases, or_right}
 use Rattle.std.specs.List.{list_any}
-use Rattle.description_types.specs.declared.flat.End.{End}
-use Rattle.description_types.specs.declared.flat.Join.{Join}
+use Rattle.plan_definitions.specs.Common.{End, Join, providers, requirers, are_several}
 use Rattle.plan_definitions.specs.JoinGroups.{IsJoined}
-use Rattle.plan_definitions.specs.Joins.{same_end, partners, providers, requirers, are_several}
+use Rattle.plan_definitions.specs.Joins.{same_end, partners}
 use Rattle.plan_definitions.proofs.Keys.{same_end_is, same_end_refl}
 
 -- x is one of these

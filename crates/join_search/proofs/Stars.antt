@@ -3,10 +3,9 @@
 use Rattle.std.proofs.Common.{◌≡◌, ℕ, zero, suc, List, Bool, true, false, ◌&&◌, ◌↔◌, refl, sym, subst, ◌∙◌, true≢false}
 use Rattle.std.proofs.lemmas.Bool.{and_from, and_parts, false_from_ne_true}
 use Rattle.std.specs.List.{list_any}
-use Rattle.description_types.specs.declared.flat.End.{End}
-use Rattle.description_types.specs.declared.flat.Join.{Join}
-use Rattle.plan_definitions.specs.JoinGroups.{IsJoined, Leads, HasRequired, HasProvided, IsManyToMany}
-use Rattle.plan_definitions.specs.Joins.{same_end, providers, requirers, are_several, crowds, is_crowded, is_many_to_many}
+use Rattle.plan_definitions.specs.Common.{End, Join, Leads, HasRequired, HasProvided, IsManyToMany, providers, requirers, are_several, crowds, is_crowded, is_many_to_many}
+use Rattle.plan_definitions.specs.JoinGroups.{IsJoined}
+use Rattle.plan_definitions.specs.Joins.{same_end}
 use Rattle.plan_definitions.proofs.Keys.{same_end_is, same_end_refl}
 use Rattle.join_search.proofs.PartnersAre.{one_provider, one_requirer, two_providers, two_requirers, any_joined, joined_any}
 

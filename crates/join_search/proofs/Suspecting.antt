@@ -1,9 +1,8 @@
 -- An end that breaks a rule stands at a port that is found.
 use Rattle.std.proofs.Common.{◌≡◌, List, Bool, true, ◌&&◌, ap, ◌∙◌, nat_eq}
 use Rattle.std.proofs.lemmas.Bool.{and_from, and_parts}
-use Rattle.description_types.specs.declared.flat.End.{End}
-use Rattle.description_types.specs.declared.flat.Join.{Join}
-use Rattle.plan_definitions.specs.Joins.{are_several, is_crowded, is_many_to_many, providers, same_end}
+use Rattle.plan_definitions.specs.Common.{End, Join, are_several, is_crowded, is_many_to_many, providers}
+use Rattle.plan_definitions.specs.Joins.{same_end}
 use Rattle.join_search.specs.Suspects.{among_at, port_of, same_port, several_at}
 use Rattle.join_search.specs.Partners.{Key, key_of}
 use Rattle.plan_definitions.proofs.Keys.{same_end_is, same_end_refl}

@@ -3,8 +3,7 @@ use Rattle.std.specs.Prelude.{◌≡◌, ℕ, List, [], ◌∷◌, Bool, false, 
 use Rattle.std.specs.List.{list_any}
 use Rattle.std.specs.Option.{option_eq, option_map_or}
 use Rattle.indexmap.specs.IndexMap.{IndexMap, get}
-use Rattle.description_types.specs.declared.flat.End.{End}
-use Rattle.description_types.specs.declared.flat.Join.{Join}
+use Rattle.plan_definitions.specs.Common.{End, Join}
 use Rattle.join_search.specs.declared.partners.Partners.{Partners}
 use Rattle.join_search.specs.declared.partners.Side.{Side}
 use Rattle.join_search.specs.declared.partners.Side.TheVariants as side

@@ -1,8 +1,7 @@
 -- Pairs of interfaces that were judged.
 use Rattle.std.specs.Prelude.{◌≡◌, ℕ, List, true}
 use Rattle.std.specs.List.{list_all}
-use Rattle.description_types.specs.declared.interface.TypeTable.{TypeTable}
-use Rattle.plan_definitions.specs.Interfaces.{are_compatible}
+use Rattle.plan_definitions.specs.Common.{TypeTable, are_compatible}
 
 -- each of these pairs is compatible
 abbrev pub HavePassed : TypeTable → List (ℕ × ℕ) → Type 0

@@ -2,9 +2,7 @@
 use Rattle.std.specs.Prelude.{ℕ, List, Bool, ◌&&◌, nat_eq, Option}
 use Rattle.std.specs.List.{list_any}
 use Rattle.std.specs.Option.{option_eq}
-use Rattle.description_types.specs.declared.flat.End.{End}
-use Rattle.description_types.specs.declared.flat.Join.{Join}
-use Rattle.plan_definitions.specs.Joins.{are_several, providers}
+use Rattle.plan_definitions.specs.Common.{End, Join, are_several, providers}
 use Rattle.join_search.specs.Partners.{Key, key_of}
 
 -- a port, of an instance or of the environment

@@ -1,8 +1,7 @@
 //! Whether connectors join compatible ports.
 
 ghost use Rattle.std.specs.Prelude.{◌≡◌, IfOk, OnOk};
-ghost use Rattle.plan_definitions.specs.Connectors.{joins_compatible, incompatible_in, incompatible};
-ghost use Rattle.plan_definitions.specs.Interfaces.{are_compatible};
+ghost use Rattle.plan_definitions.specs.Common.{joins_compatible, incompatible_in, incompatible, are_compatible};
 ghost use Rattle.join_search.specs.Passed.{HavePassed};
 
 use crate::judge::Judge;

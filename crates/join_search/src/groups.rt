@@ -1,10 +1,8 @@
 //! Groups of data elements that joins connect.
 
 ghost use Rattle.std.specs.Prelude.{◌≡◌, ◌&&◌, ◌↔◌, ◌||◌, IfOk, IsTrue, OnOk};
-ghost use Rattle.description_types.specs.declared.flat.End.{End};
+ghost use Rattle.plan_definitions.specs.Common.{End, IsManyToMany, is_crowded, is_many_to_many};
 ghost use Rattle.indexmap.specs.IndexSet.{contains};
-ghost use Rattle.plan_definitions.specs.JoinGroups.{IsManyToMany};
-ghost use Rattle.plan_definitions.specs.Joins.{is_crowded, is_many_to_many};
 ghost use Rattle.join_search.specs.Partners.{key_of, same_key, Key};
 
 use crate::partners::{Degrees, Key, key_of_end};

@@ -1,10 +1,7 @@
 //! What rule 15 forbids.
 
 ghost use Rattle.std.specs.Prelude.{◌≡◌, ◌↔◌, List, true};
-ghost use Rattle.description_types.specs.declared.flat.End.{End};
-ghost use Rattle.description_types.specs.declared.flat.Join.{Join};
-ghost use Rattle.plan_definitions.specs.JoinGroups.{IsManyToMany};
-ghost use Rattle.plan_definitions.specs.Joins.{is_many_to_many};
+ghost use Rattle.plan_definitions.specs.Common.{End, Join, IsManyToMany, is_many_to_many};
 
 /// What rule 15 sees from the ends nearby is what it says of whole groups: chains of joins lead from the required end to several
 /// required and several provided ends (SWS_RTE: sender-receiver communication 1:n and n:1).

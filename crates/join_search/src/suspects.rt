@@ -1,9 +1,8 @@
 //! The ports at which an end breaks a rule, so that others need not be looked through item by item.
 
 ghost use Rattle.std.specs.Prelude.{◌≡◌, ◌&&◌, ◌||◌, IfOk, OnOk, false, true};
-ghost use Rattle.description_types.specs.declared.flat.End.{End};
+ghost use Rattle.plan_definitions.specs.Common.{End, are_several, is_many_to_many, providers};
 ghost use Rattle.indexmap.specs.IndexSet.{contains};
-ghost use Rattle.plan_definitions.specs.Joins.{are_several, is_many_to_many, providers};
 ghost use Rattle.join_search.specs.Partners.{key_of, same_key};
 ghost use Rattle.join_search.specs.Suspects.{PortKey, among_at, port_of, same_port, several_at};
 

@@ -1,7 +1,6 @@
 -- A text at the place of its first separator.
 use Rattle.std.proofs.Common.{◌≡◌, ℕ, suc, ◌+◌, ◌<◌, ◌≤◌, Bool, true, false, not, cond, ◌==◌, List, [], ◌∷◌, length, take, drop, refl, sym, ap, ◌∙◌, subst, Some, None, nat_lt, arith}
-use Rattle.std.proofs.lemmas.Bool.{ltb-true, ltb-false}
-use Rattle.std.specs.List.{position, position_or_len}
+use Rattle.bus_semantics.specs.Common.{ltb-true, ltb-false, position, position_or_len}
 use Rattle.line_fields.specs.Texts.{parts}
 use Rattle.line_fields.specs.Texts.{lines_of, onto_first}
 

@@ -1,12 +1,12 @@
 -- Numbers and words as `parse` reads them.
-use Rattle.std.proofs.Common.{◌≡◌, ℕ, zero, suc, ◌^◌, ◌<◌, ◌≤◌, ◌==◌, Bool, true, false, cond, List, [], ◌∷◌, length, get_or, drop, Result, Err, inl, inr, ℤ, pos, negsuc, refl, sym, subst, arith, w64, nat_le}
-use Rattle.std.proofs.lemmas.Bool.{leb-true, le-leb, cases_lt, false_from_ne_true, eqb-true, and_from, and_parts}
+use Rattle.std.proofs.Common.{◌≡◌, ℕ, zero, suc, ◌^◌, ◌<◌, ◌≤◌, ◌==◌, Bool, true, false, cond, List, [], ◌∷◌, length, get_or, drop, Result, Err, inl, inr, ℤ, pos, negsuc, refl, sym, subst}
+use Rattle.std.proofs.Common.{arith, w64, nat_le}
+use Rattle.bus_semantics.specs.Common.{leb-true, le-leb, cases_lt, false_from_ne_true, eqb-true, and_from, and_parts, list_all}
 use Rattle.std.proofs.lemmas.Str.Parse.{IsDigitsTest, IsNumeralModel, numerals_by_value, without_leading_plus_none}
 use Rattle.std.proofs.lemmas.Fmt.{IsAscii-from_digits}
 use Rattle.std.proofs.lemmas.Str.{IsUtf8-from_ascii}
 use Rattle.std.specs.Int.{IsInRange}
 use Rattle.std.specs.Int.RustNames.{FitsSigned}
-use Rattle.std.specs.List.{list_all}
 use Rattle.std.specs.Result.{OkIff}
 use Rattle.std.specs.Str.{IsUtf8, IsAscii}
 use Rattle.std.specs.Str.Parse.{IsNumeral, ParsesSigned, ParsesUnsigned, digits_value, signed_digits_value, without_leading_plus, without_leading_sign}

@@ -1,11 +1,6 @@
 -- Lists of names, each once.
 use Rattle.std.proofs.Common.{◌≡◌, ℕ, zero, suc, ◌<◌, Bool, true, false, not, ◌==◌, List, [], ◌∷◌, map, Some, refl, ap, ◌∙◌, subst, arith}
-use Rattle.std.specs.List.{list_all, list_any, slice_get}
-use Rattle.std.specs.Option.{option_map}
-use Rattle.std.proofs.lemmas.Bool.{and_parts, and_from, eq-eqb, or_parts}
-use Rattle.std.proofs.lemmas.Option.{slice_get-map}
-use Rattle.bus_semantics.specs.SoundNames.{Named, named_once, same_named}
-use Rattle.bus_semantics.specs.SoundPlan.{same_numbers}
+use Rattle.bus_semantics.specs.Common.{list_all, list_any, slice_get, option_map, and_parts, and_from, eq-eqb, or_parts, slice_get-map, Named, named_once, same_named, same_numbers}
 
 not_true : (b : Bool) → not b ≡ true → b ≡ false
 not_true true h = absurd (cc)

@@ -1,10 +1,8 @@
 -- In a plan in which names are distinct, as in a sound one, a name finds what it names.
-use Rattle.std.proofs.Common.{◌≡◌, ℕ, zero, suc, ◌+◌, ◌<◌, Bool, true, false, not, ◌&&◌, cond, List, [], ◌∷◌, map, length, nat_lt, bytes_eq, unwrap_or, Option, Some, None, refl, sym, ap, ◌∙◌, subst, arith}
-use Rattle.std.specs.List.{list_all, position, position_or_len, slice_get}
-use Rattle.std.proofs.lemmas.List.{length-map}
-use Rattle.std.proofs.lemmas.Bool.{and_parts, and_from, eq-eqb, eqb-true, lt-ltb}
-use Rattle.std.proofs.lemmas.Slice.Eq.{bytes_eq-Decides}
-use Rattle.rte_value.specs.Values.{same_number}
+use Rattle.std.proofs.Common.{◌≡◌, ℕ, zero, suc, ◌+◌, ◌<◌, Bool, true, false, not, ◌&&◌, cond, List, [], ◌∷◌, map, length, nat_lt, bytes_eq, unwrap_or, Option, Some, None, refl, sym, ap}
+use Rattle.std.proofs.Common.{◌∙◌, subst, arith}
+use Rattle.bus_semantics.specs.Common.{list_all, position, position_or_len, slice_get, length-map, and_parts, and_from, eq-eqb, eqb-true, lt-ltb, bytes_eq-Decides, same_number, Plan}
+use Rattle.bus_semantics.specs.Common.{Runnable, instance_of, IsSound, Named, caller_rank, named_once, names_distinct, names_fit, rank, Letters}
 use Rattle.bus_semantics.specs.declared.plan.ElemPlan.{ElemPlan}
 use Rattle.bus_semantics.specs.declared.plan.PointPlan.{PointPlan}
 use Rattle.bus_semantics.specs.declared.plan.AreaPlan.{AreaPlan}
@@ -12,11 +10,6 @@ use Rattle.bus_semantics.specs.declared.plan.MachinePlan.{MachinePlan}
 use Rattle.bus_semantics.specs.declared.plan.ModePortPlan.{ModePortPlan}
 use Rattle.bus_semantics.specs.declared.plan.EventPlan.{EventPlan}
 use Rattle.bus_semantics.specs.declared.script.Mapping.{Mapping}
-use Rattle.bus_semantics.specs.Plan.{Plan, Runnable, instance_of}
-use Rattle.bus_semantics.specs.Sound.{IsSound}
-use Rattle.bus_semantics.specs.SoundNames.{Named, caller_rank, named_once, names_distinct, names_fit}
-use Rattle.bus_semantics.specs.SoundPlan.{rank}
-use Rattle.bus_semantics.specs.Spelling.{Letters}
 use Rattle.line_fields.specs.Named.{FindsAreas, FindsElems, FindsEvents, FindsInstances, FindsMachines, FindsModePorts, FindsModes, FindsPoints, FindsRunnables}
 use Rattle.line_fields.proofs.Distinct.{all_at, labels_apart}
 

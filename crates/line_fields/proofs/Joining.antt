@@ -1,8 +1,6 @@
 -- A text and its parts: these with the separator between them are the text, and a text with no separator is one part.
 use Rattle.std.proofs.Common.{◌≡◌, ℕ, ◌<◌, Bool, true, false, not, ◌&&◌, cond, ◌==◌, List, [], ◌∷◌, ◌++◌, length, refl, sym, ap, ◌∙◌, subst, arith}
-use Rattle.std.specs.List.{list_all}
-use Rattle.std.proofs.lemmas.Bool.{and_parts, and_from, eqb-true, eq-eqb}
-use Rattle.std.proofs.lemmas.List.Folds.{list_all-append}
+use Rattle.bus_semantics.specs.Common.{list_all, and_parts, and_from, eqb-true, eq-eqb, list_all-append}
 use Rattle.line_fields.specs.Texts.{onto_first, parts}
 use Rattle.line_fields.proofs.Cutting.{parts-some}
 

@@ -1,9 +1,6 @@
 -- Names, numbers, words and values have no space, and words no comma.
 use Rattle.std.proofs.Common.{◌≡◌, ℕ, Bool, true, false, not, ◌&&◌, ◌||◌, cond, ◌==◌, List, [], ◌∷◌, bytes_eq, codes, refl, sym, subst}
-use Rattle.std.specs.List.{list_all}
-use Rattle.std.proofs.lemmas.Bool.{and_parts, and_from, eqb-true}
-use Rattle.std.proofs.lemmas.Slice.Eq.{bytes_eq-Decides}
-use Rattle.bus_semantics.specs.SoundNames.{is_letter, is_name, is_name_part}
+use Rattle.bus_semantics.specs.Common.{list_all, and_parts, and_from, eqb-true, bytes_eq-Decides, is_letter, is_name, is_name_part}
 use Rattle.line_fields.specs.Numbers.{is_digit, is_negated, is_number, is_value, is_word}
 use Rattle.line_fields.specs.Texts.{is_pair_name, parts}
 use Rattle.line_fields.proofs.Decimals.{negated_is_number, number_digits}

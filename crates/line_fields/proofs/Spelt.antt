@@ -1,9 +1,7 @@
 -- Numbers are what their values are in decimal.
 use Rattle.std.proofs.Common.{◌≡◌, ℕ, zero, suc, ◌+◌, ◌^◌, ◌<◌, lit<, lit≤, ◌≤◌, Bool, true, false, not, ◌&&◌, ◌||◌, ◌==◌, [], ◌∷◌, length, get_or, decimal, refl, arith}
-use Rattle.std.specs.List.{list_all}
-use Rattle.std.proofs.lemmas.Bool.{and_parts, and_from, eqb-true, eq-eqb}
+use Rattle.bus_semantics.specs.Common.{list_all, and_parts, and_from, eqb-true, eq-eqb, Letters}
 use Rattle.std.proofs.lemmas.Fmt.{decimal_digit, decimal-digits_value, decimal_nonempty, digits_decimal, digits_value-decimal, first_decimal}
-use Rattle.bus_semantics.specs.Spelling.{Letters}
 use Rattle.line_fields.specs.Numbers.{is_digit, is_empty, is_number, number_in}
 use Rattle.line_fields.proofs.Decimals.{number_digits, own}
 

@@ -1,14 +1,11 @@
 -- A value that can be held is spelt in one way.
-use Rattle.std.proofs.Common.{◌≡◌, ℕ, zero, suc, ◌+◌, ◌^◌, ◌<◌, ◌≤◌, lit<, Bool, true, false, not, ◌||◌, cond, ◌==◌, List, [], ◌∷◌, ◌++◌, map, length, get_or, bytes_eq, codes, decimal, ℤ, pos, negsuc, refl, sym, ap, ◌∙◌, subst, nat_le, arith}
+use Rattle.std.proofs.Common.{◌≡◌, ℕ, zero, suc, ◌+◌, ◌^◌, ◌<◌, ◌≤◌, lit<, Bool, true, false, not, ◌||◌, cond, ◌==◌, List, [], ◌∷◌, ◌++◌, map, length, get_or, bytes_eq, codes, decimal, ℤ}
+use Rattle.std.proofs.Common.{pos, negsuc, refl, sym, ap, ◌∙◌, subst, nat_le, arith}
 use Rattle.std.specs.Fmt.{signed_decimal}
-use Rattle.std.specs.List.{list_all}
+use Rattle.bus_semantics.specs.Common.{list_all, and_parts, and_from, leb-true, eqb-true, or_right, false_from_ne_true, append-nil, bytes_eq-Decides, Letters, more_words, words_text}
 use Rattle.std.specs.Str.Parse.{digits_value, without_leading_plus}
 use Rattle.std.proofs.Math.IntN.{neg_ℤ}
-use Rattle.std.proofs.lemmas.Bool.{and_parts, and_from, leb-true, eqb-true, or_right, false_from_ne_true}
-use Rattle.std.proofs.lemmas.List.{append-nil}
 use Rattle.std.proofs.lemmas.Fmt.{decimal_digit, first_decimal}
-use Rattle.std.proofs.lemmas.Slice.Eq.{bytes_eq-Decides}
-use Rattle.bus_semantics.specs.Spelling.{Letters, more_words, words_text}
 use Rattle.line_fields.specs.Numbers.{are_held, is_digit, is_held, is_negated, is_number, is_value, is_word, number_in, word_in, words_in}
 use Rattle.line_fields.specs.Texts.{parts}
 use Rattle.line_fields.proofs.Decimals.{no_plus, number_digits}

@@ -1,7 +1,6 @@
 -- What the first part of a text is, and what is taken of a value.
 use Rattle.std.specs.Prelude.{◌≡◌, ℕ, ℤ, ◌≤◌, List, [], ◌∷◌, ◌++◌, length, Bool, true, false, ◌⊎◌, MatchOption, Option}
-use Rattle.std.specs.Borrow.{Bor}
-use Rattle.bus_semantics.specs.Spelling.{Letters}
+use Rattle.bus_semantics.specs.Common.{Bor, Letters}
 use Rattle.line_fields.specs.Texts.{parts}
 use Rattle.line_fields.specs.Numbers.{is_held}
 

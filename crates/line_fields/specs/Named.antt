@@ -1,14 +1,12 @@
 -- What has a name in a plan: within an instance (or the environment), of points within a runnable (or the environment), and of one kind.
 use Rattle.std.specs.Prelude.{◌≡◌, ℕ, Bool, ◌&&◌, bytes_eq, Option, Some, position, slice_get}
-use Rattle.rte_value.specs.Values.{same_number}
+use Rattle.bus_semantics.specs.Common.{same_number, Plan, Runnable, instance_of, Letters}
 use Rattle.bus_semantics.specs.declared.plan.ElemPlan.{ElemPlan}
 use Rattle.bus_semantics.specs.declared.plan.PointPlan.{PointPlan}
 use Rattle.bus_semantics.specs.declared.plan.AreaPlan.{AreaPlan}
 use Rattle.bus_semantics.specs.declared.plan.MachinePlan.{MachinePlan}
 use Rattle.bus_semantics.specs.declared.plan.ModePortPlan.{ModePortPlan}
 use Rattle.bus_semantics.specs.declared.plan.EventPlan.{EventPlan}
-use Rattle.bus_semantics.specs.Plan.{Plan, Runnable, instance_of}
-use Rattle.bus_semantics.specs.Spelling.{Letters}
 
 abbrev pub is_elem : (home : Option ℕ) → Letters → ElemPlan → Bool
 is_elem home name e = same_number e.instance home && bytes_eq e.name name

@@ -1,10 +1,8 @@
 -- Numbers and values as scripts and traces write them: in decimal, with no leading zeros and no plus sign, and zero with no minus sign.
 use Rattle.std.specs.Prelude.{ℕ, ℤ, pos, negsuc, List, [], ◌∷◌, map, length, nat_le, int_le, Bool, false, true, not, ◌&&◌, ◌||◌, ◌==◌, bytes_eq, codes, if◌then◌else◌}
-use Rattle.std.specs.List.{list_all}
+use Rattle.bus_semantics.specs.Common.{list_all, is_in, Letters}
 use Rattle.std.specs.Str.Parse.{digits_value, signed_digits_value}
-use Rattle.bus_semantics.specs.SoundPlan.{is_in}
 use Rattle.line_fields.specs.Texts.{parts}
-use Rattle.bus_semantics.specs.Spelling.{Letters}
 
 abbrev pub is_digit : ℕ → Bool
 is_digit c = is_in 48 57 c

@@ -1,8 +1,6 @@
 -- The parts of a text, its lines, and names with a dot between them, which are this project's own.
 use Rattle.std.specs.Prelude.{ℕ, List, [], ◌∷◌, length, Bool, ◌&&◌, ◌==◌, if◌then◌else◌}
-use Rattle.std.specs.List.{list_all}
-use Rattle.bus_semantics.specs.SoundNames.{is_name}
-use Rattle.bus_semantics.specs.Spelling.{Letters}
+use Rattle.bus_semantics.specs.Common.{list_all, is_name, Letters}
 
 abbrev pub onto_first : ℕ → List Letters → List Letters
 onto_first c [] = (c ∷ []) ∷ []

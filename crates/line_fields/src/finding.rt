@@ -1,8 +1,7 @@
 //! The first thing of a name. `home` is an instance, or None for the outer ports.
 
 ghost use Rattle.std.specs.Prelude.{◌≡◌, position};
-ghost use Rattle.rte_value.specs.Values.{same_number};
-ghost use Rattle.bus_semantics.specs.Plan.{instance_of, plan_of, runnable_of};
+ghost use Rattle.bus_semantics.specs.Common.{same_number, instance_of, plan_of, runnable_of};
 ghost use Rattle.line_fields.specs.Named.{is_area, is_elem, is_event, is_machine, is_mode_port, is_point, is_runnable, is_text};
 
 use bus_semantics::{

@@ -1,8 +1,7 @@
 //! The law of names.
 
 ghost use Rattle.bus_semantics.specs.declared.script.Mapping.{Mapping};
-ghost use Rattle.bus_semantics.specs.Plan.{Plan};
-ghost use Rattle.bus_semantics.specs.Sound.{IsSound};
+ghost use Rattle.bus_semantics.specs.Common.{Plan, IsSound};
 ghost use Rattle.line_fields.specs.Named.{FindsAreas, FindsElems, FindsEvents, FindsInstances, FindsMachines, FindsModePorts, FindsModes, FindsPoints, FindsRunnables};
 
 /// In a sound plan the name of a thing, with what it stands in, finds that thing.

@@ -1,8 +1,7 @@
 //! The names of outer ports, of what they have, and of modes.
 
 ghost use Rattle.std.specs.Prelude.{◌≡◌};
-ghost use Rattle.std.specs.List.{list_all};
-ghost use Rattle.bus_semantics.specs.SoundNames.{is_letter, is_name, is_name_part};
+ghost use Rattle.bus_semantics.specs.Common.{list_all, is_letter, is_name, is_name_part};
 ghost use Rattle.line_fields.specs.Texts.{are_names, is_pair_name};
 
 use crate::cuts::cut;

@@ -1,8 +1,7 @@
 //! Values: words joined by commas, or a dash for none.
 
 ghost use Rattle.std.specs.Prelude.{◌≡◌, ◌++◌, IfSome, IfNone, map, true, false};
-ghost use Rattle.std.specs.List.{list_all};
-ghost use Rattle.rte_value.specs.Values.{words_of};
+ghost use Rattle.bus_semantics.specs.Common.{list_all, words_of};
 ghost use Rattle.line_fields.specs.Texts.{parts};
 ghost use Rattle.line_fields.specs.Numbers.{are_held, is_held, is_value, is_word, word_in, words_in};
 ghost use Rattle.line_fields.specs.Cuts.{HasTaken};

@@ -1,16 +1,14 @@
 -- A round that is open, with all who run in it.
 use Rattle.std.proofs.Common.{◌≡◌, ◌≤◌, ◌<◌, ◌+◌, ◌++◌, ◌∷◌, [], suc, ℕ, refl, sym, ◌∙◌, ap, subst, arith, List, length, map, take, drop, Option, Some}
 use Rattle.std.specs.Prelude.{sum}
-use Rattle.std.proofs.lemmas.List.{length-map, length_push}
-use Rattle.bus_semantics.specs.Plan.{Plan}
+use Rattle.bus_semantics.specs.Common.{length-map, length_push, Plan}
 use Rattle.port_objects.specs.declared.object.Object.{Object}
 use Rattle.task_machine.specs.declared.instr.TaskSet.{TaskSet}
 use Rattle.task_generator.specs.Promise.{AsksAsPlanned}
 use Rattle.core_turn.specs.Cores.{CoreState}
 use Rattle.cross_core_table.specs.declared.seats.CoreSeat.{CoreSeat}
-use Rattle.cross_core_table.specs.OpenRounds.{OpenRound}
+use Rattle.cross_core_table.specs.Common.{OpenRound, IsSeatOf}
 use Rattle.cross_core_table.specs.Opened.{IsOpened}
-use Rattle.cross_core_table.specs.Seats.{IsSeatOf}
 use Rattle.core_lanes.specs.Rooms.{HaveRoom}
 use Rattle.feed_queue.specs.declared.queue.Queued.{Queued}
 use Rattle.feed_queue.specs.Passes.{IsNew, IsPumpOf, order_of}

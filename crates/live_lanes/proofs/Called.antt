@@ -1,34 +1,15 @@
 -- What the environment wishes never has to wait, and what comes of it.
 use Rattle.std.proofs.Common.{◌≡◌, ◌<◌, ℕ, false, true, is_some, refl, sym, ◌∙◌, ap, subst, arith, List, [], ◌∷◌, ◌++◌, map, length, slice_get, unwrap_or, Option, Some, None}
 use Rattle.std.specs.Prelude.{IfSome}
-use Rattle.std.proofs.lemmas.Bool.{false≢true}
-use Rattle.std.proofs.lemmas.Option.{same_Some}
-use Rattle.bus_semantics.specs.declared.entries.Actor.{Actor}
-use Rattle.bus_semantics.specs.declared.entries.Actor.TheVariants.{Env}
-use Rattle.bus_semantics.specs.declared.entries.Deed.{Deed}
-use Rattle.bus_semantics.specs.declared.entries.Stamped.{Stamped}
-use Rattle.bus_semantics.specs.declared.entries.Wish.{Wish}
-use Rattle.bus_semantics.specs.declared.script.Mapping.{Mapping}
-use Rattle.bus_semantics.specs.Plan.{Plan}
-use Rattle.bus_semantics.specs.History.{Noted, Past}
-use Rattle.bus_semantics.specs.Objects.{object_of, touched, IsObject}
-use Rattle.bus_semantics.specs.Fitting.{wish_fits}
-use Rattle.bus_semantics.specs.Pasts.{Follows, IsPastOf}
-use Rattle.bus_semantics.specs.Sound.{IsSound}
-use Rattle.bus_semantics.specs.Wanted.{Wanted, wanted_of, wanted_by}
-use Rattle.bus_semantics.specs.Asked.{event_of}
+use Rattle.bus_semantics.specs.Common.{false≢true, same_Some, Plan, Noted, Past, object_of, touched, IsObject, wish_fits, Follows, IsPastOf, IsSound, Wanted, wanted_of, wanted_by, event_of}
+use Rattle.bus_laws.specs.Common.{Actor, Env, Deed, Stamped, Wish, Mapping}
 use Rattle.history_laws.specs.Coming.{IsAsked, Comes, may_be_held}
 use Rattle.object_kinds.specs.declared.acted.Shown.{Shown}
 use Rattle.object_kinds.proofs.Options.{then_some}
 use Rattle.port_objects.specs.declared.object.Object.{Object}
-use Rattle.port_objects.specs.Kept.{Kept}
-use Rattle.port_objects.specs.Leading.{lead, leads}
-use Rattle.port_objects.specs.Objects.{kept_of}
-use Rattle.port_objects.specs.Standing.{Stands}
+use Rattle.port_objects.specs.Common.{Kept, lead, leads, kept_of, Stands, Work, IsStamped, stamped_alone, Frees}
 use Rattle.port_objects.specs.declared.bench.Benched.TheVariants.{Done, NotYet}
 use Rattle.port_objects.specs.Benches as Benches
-use Rattle.port_objects.specs.Benches.{Work, IsStamped, stamped_alone}
-use Rattle.port_objects.specs.Freed.{Frees}
 use Rattle.cross_core_table.specs.declared.views.Opening.{Opening}
 use Rattle.cross_core_table.specs.declared.views.View.{View}
 use Rattle.cross_core_table.specs.Logs.{plan_in, noted_as, kept_after}

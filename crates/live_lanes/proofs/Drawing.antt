@@ -1,10 +1,8 @@
 -- One wish more is drawn.
 use Rattle.std.proofs.Common.{◌≡◌, ◌<◌, ◌≤◌, ◌+◌, ◌⊎◌, inl, inr, ⊎_elim, ℕ, zero, suc, refl, sym, ◌∙◌, ap, subst, arith, List, [], ◌∷◌, ◌++◌, map, take, length, Some, None}
-use Rattle.std.specs.List.{slice_get, All}
-use Rattle.std.proofs.lemmas.List.{length_push, take-append-le, take_all, map-append}
-use Rattle.std.proofs.Math.Seq.{take-append_seam}
+use Rattle.bus_semantics.specs.Common.{slice_get, All, length_push, take_all, map-append, take-append_seam, Wanted}
+use Rattle.std.proofs.lemmas.List.{take-append-le}
 use Rattle.bus_semantics.specs.declared.entries.Stamped.{Stamped}
-use Rattle.bus_semantics.specs.Wanted.{Wanted}
 use Rattle.feed_queue.specs.Feeds.{times}
 use Rattle.feed_queue.specs.declared.feeds.Feeds.{Feeds}
 use Rattle.live_lanes.specs.Calls.{wish_in, wishes_in}

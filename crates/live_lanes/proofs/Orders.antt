@@ -1,23 +1,15 @@
 -- The pump's order of feeds, call by call.
 use Rattle.std.proofs.Common.{◌≡◌, ◌≢◌, ◌<◌, ◌≤◌, ◌⊎◌, ⊎_elim, ◌+◌, ◌-◌, ℕ, zero, suc, refl, sym, ◌∙◌, ap, subst, arith, List, [], ◌∷◌, ◌++◌, map, set, get_or, length, true, Some, Vec}
 use Rattle.std.specs.Prelude.{sum}
-use Rattle.std.specs.Global.{Global}
-use Rattle.std.specs.List.{slice_get, All}
-use Rattle.std.proofs.lemmas.Bool.{cases_lt}
-use Rattle.std.proofs.lemmas.List.{length_push, length-map, get_or_past, get_or-set_same, get_or-set_other}
+use Rattle.bus_semantics.specs.Common.{Global, slice_get, All, cases_lt, length_push, length-map, get_or-set_same, get_or-set_other, option_map, get_or_from_slice_get, slice_get_within}
+use Rattle.bus_semantics.specs.Common.{slice_get-map, slice_get_read, All-nil, wish_fits, Plan, Wanted, wanted_of}
+use Rattle.std.proofs.lemmas.List.{get_or_past}
 use Rattle.std.proofs.lemmas.List.Sums.{sum_by-set, get_or-le-sum_by}
 use Rattle.std.proofs.Math.Nat.{eq-or-lt_of_le}
-use Rattle.std.specs.Option.{option_map}
-use Rattle.std.proofs.lemmas.Option.{get_or_from_slice_get, slice_get_within, slice_get-map, slice_get_read}
-use Rattle.std.proofs.lemmas.List.Elements.{All-nil, All-push}
+use Rattle.std.proofs.lemmas.List.Elements.{All-push}
 use mathlib.Core.Logic.{dite}
 use native.Mathlib.Decide.{ℕ_discrete}
-use Rattle.bus_semantics.specs.declared.entries.Actor.TheVariants.{Env}
-use Rattle.bus_semantics.specs.declared.entries.Stamped.{Stamped}
-use Rattle.bus_semantics.specs.declared.entries.Wish.{Wish}
-use Rattle.bus_semantics.specs.Fitting.{wish_fits}
-use Rattle.bus_semantics.specs.Plan.{Plan}
-use Rattle.bus_semantics.specs.Wanted.{Wanted, wanted_of}
+use Rattle.bus_laws.specs.Common.{Env, Stamped, Wish}
 use Rattle.core_lanes.specs.Calling.{IsCall}
 use Rattle.feed_queue.specs.Feeds.{length_of, times}
 use Rattle.feed_queue.proofs.Counts.{times_last, times_other, times_within}

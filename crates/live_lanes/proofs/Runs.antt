@@ -1,29 +1,19 @@
 -- A round of cores with a seat more, from its opening to its close.
 use Rattle.std.proofs.Common.{◌≡◌, ◌<◌, ◌⊎◌, ⊎_elim, ◌+◌, ℕ, zero, suc, refl, sym, ◌∙◌, ap, subst, arith, List, [], ◌∷◌, ◌++◌, map, length, length-append, true, Option, Some, None}
-use Rattle.std.specs.List.{slice_get}
-use Rattle.std.proofs.lemmas.List.{length-map, map-append, length_push}
+use Rattle.bus_semantics.specs.Common.{slice_get, length-map, map-append, length_push, same_Some, slice_get_within, Plan, History, IsSound, entries_of}
 use Rattle.std.specs.Option.{MatchOption, option_to_list}
-use Rattle.std.proofs.lemmas.Option.{same_Some, slice_get_within}
-use Rattle.bus_semantics.specs.declared.entries.Stamped.{Stamped}
-use Rattle.bus_semantics.specs.declared.script.Mapping.{Mapping}
-use Rattle.bus_semantics.specs.Plan.{Plan}
-use Rattle.bus_semantics.specs.History.{History}
-use Rattle.bus_semantics.specs.Sound.{IsSound}
-use Rattle.bus_semantics.specs.Objects.{entries_of}
+use Rattle.bus_laws.specs.Common.{Stamped, Mapping}
 use Rattle.bus_laws.proofs.Thinning.{there_is}
 use Rattle.port_objects.specs.declared.object.Object.{Object}
-use Rattle.port_objects.specs.Objects.{kept_of, ArePlans}
-use Rattle.port_objects.specs.Standing.{Stands}
+use Rattle.port_objects.specs.Common.{kept_of, ArePlans, Stands}
 use Rattle.task_machine.specs.declared.instr.TaskSet.{TaskSet}
 use Rattle.core_turn.specs.Cores.{CoreState}
 use Rattle.core_turn.specs.Lawful.{IsLawful}
 use Rattle.cross_core_table.specs.declared.views.Opening.{Opening}
 use Rattle.cross_core_table.specs.declared.seats.CoreSeat.{CoreSeat}
 use Rattle.cross_core_table.specs.Closing.{IsClosed}
-use Rattle.cross_core_table.specs.Logs.{plan_in}
-use Rattle.cross_core_table.specs.OpenRounds.{OpenRound}
+use Rattle.cross_core_table.specs.Common.{plan_in, OpenRound, IsSeatOf, AreSeatsOf, view_of, made_of}
 use Rattle.cross_core_table.specs.Opened.{IsOpened}
-use Rattle.cross_core_table.specs.Seats.{IsSeatOf, AreSeatsOf, view_of, made_of}
 use Rattle.core_lanes.specs.After.{after, calls_in}
 use Rattle.core_lanes.specs.Calling.{TakeParts}
 use Rattle.core_lanes.specs.Rooms.{HasRoom, HaveRoom}

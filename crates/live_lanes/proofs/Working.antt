@@ -1,10 +1,7 @@
 -- All who run, in one list.
-use Rattle.std.proofs.Common.{◌≡◌, ◌<◌, ◌≤◌, ◌+◌, ◌⊎◌, inl, inr, ⊎_elim, ℕ, zero, suc, refl, sym, ◌∙◌, ap, subst, arith, List, [], ◌∷◌, ◌++◌, map, take, length, length-append, append-nil, get_or, ◌-◌, Option, Some}
-use Rattle.std.specs.List.{slice_get, flat_map}
-use Rattle.std.proofs.lemmas.List.{length-map, length_push}
-use Rattle.std.proofs.lemmas.Option.{same_Some, slice_get_within, get_or_from_slice_get}
-use Rattle.std.proofs.Math.Seq.{take-append_seam}
-use Rattle.bus_semantics.specs.Plan.{Plan}
+use Rattle.std.proofs.Common.{◌≡◌, ◌<◌, ◌≤◌, ◌+◌, ◌⊎◌, inl, inr, ⊎_elim, ℕ, zero, suc, refl, sym, ◌∙◌, ap, subst, arith, List, [], ◌∷◌, ◌++◌, map, take, length, length-append, append-nil}
+use Rattle.std.proofs.Common.{get_or, ◌-◌, Option, Some}
+use Rattle.bus_semantics.specs.Common.{slice_get, flat_map, length-map, length_push, same_Some, slice_get_within, get_or_from_slice_get, take-append_seam, Plan}
 use Rattle.bus_laws.proofs.Thinning.{there_is}
 use Rattle.task_machine.specs.declared.instr.TaskSet.{TaskSet}
 use Rattle.core_turn.specs.Cores.{CoreState}

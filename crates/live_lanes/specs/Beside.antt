@@ -1,19 +1,14 @@
 -- What comes of turns of cores beside calls of the environment.
 use Rattle.std.specs.Prelude.{◌≡◌, ℕ, suc, List, length, true}
-use Rattle.bus_semantics.specs.declared.entries.Stamped.{Stamped}
-use Rattle.bus_semantics.specs.declared.script.Mapping.{Mapping}
-use Rattle.bus_semantics.specs.History.{History}
-use Rattle.bus_semantics.specs.Interleaving.{stamps_count}
-use Rattle.bus_semantics.specs.Plan.{Plan}
-use Rattle.bus_semantics.specs.Sound.{IsSound}
+use Rattle.bus_laws.specs.Common.{Stamped, Mapping}
+use Rattle.bus_semantics.specs.Common.{History, stamps_count, Plan, IsSound}
 use Rattle.port_objects.specs.declared.object.Object.{Object}
 use Rattle.port_objects.specs.Objects.{ArePlans}
 use Rattle.task_machine.specs.declared.instr.TaskSet.{TaskSet}
 use Rattle.core_turn.specs.Cores.{CoreState}
 use Rattle.core_turn.specs.Lawful.{IsLawful}
-use Rattle.cross_core_table.specs.Logs.{plan_in}
+use Rattle.cross_core_table.specs.Common.{plan_in, OpenRound}
 use Rattle.cross_core_table.specs.Opened.{IsOpened}
-use Rattle.cross_core_table.specs.OpenRounds.{OpenRound}
 use Rattle.core_lanes.specs.After.{after}
 use Rattle.core_lanes.specs.Rooms.{HaveRoom}
 use Rattle.feed_queue.specs.Passes.{IsNew, order_of}

@@ -1,11 +1,9 @@
 -- The pump with the environment's seat: before its calls, and after them.
 use Rattle.std.specs.Prelude.{◌≡◌, ◌≤◌, ℕ, List, [], sum, Some}
-use Rattle.std.specs.List.{All}
+use Rattle.bus_semantics.specs.Common.{All, Plan}
 use Rattle.bus_semantics.specs.declared.entries.Stamped.{Stamped}
-use Rattle.bus_semantics.specs.Plan.{Plan}
 use Rattle.cross_core_table.specs.declared.seats.CoreSeat.{CoreSeat}
-use Rattle.cross_core_table.specs.OpenRounds.{OpenRound}
-use Rattle.cross_core_table.specs.Seats.{IsSeatOf, view_of, made_of}
+use Rattle.cross_core_table.specs.Common.{OpenRound, IsSeatOf, view_of, made_of}
 use Rattle.core_lanes.specs.Calling.{IsCall}
 use Rattle.feed_queue.specs.declared.queue.FeedQueue.{FeedQueue}
 use Rattle.feed_queue.specs.Feeds.{length_of, times}

@@ -1,12 +1,9 @@
 -- Calls that the environment makes by its seat.
 use Rattle.std.specs.Prelude.{◌≡◌, ℕ, List, [], ◌∷◌, ◌++◌, map, Some, slice_get}
 use Rattle.bus_semantics.specs.declared.entries.Stamped.{Stamped}
-use Rattle.bus_semantics.specs.History.{Past}
-use Rattle.bus_semantics.specs.Plan.{Plan}
-use Rattle.bus_semantics.specs.Wanted.{Wanted, wanted_by}
+use Rattle.bus_semantics.specs.Common.{Past, Plan, Wanted, wanted_by}
 use Rattle.port_objects.specs.declared.object.Object.{Object}
-use Rattle.port_objects.specs.Objects.{kept_of}
-use Rattle.port_objects.specs.Standing.{Stands}
+use Rattle.port_objects.specs.Common.{kept_of, Stands}
 use Rattle.cross_core_table.specs.declared.views.Opening.{Opening}
 use Rattle.cross_core_table.specs.Logs.{plan_in}
 use Rattle.core_lanes.specs.After.{calls_in}

@@ -1,10 +1,7 @@
 -- Which wishes come of feeds, by the order in which the feeds came. Feeds are this project's own.
 use Rattle.std.specs.Prelude.{◌≡◌, ◌≤◌, ℕ, List, length, map, take, sum, true, Some, slice_get}
-use Rattle.std.specs.List.{All}
+use Rattle.bus_semantics.specs.Common.{All, wish_fits, Plan, Wanted, wanted_of}
 use Rattle.bus_semantics.specs.declared.entries.Actor.TheVariants.{Env}
-use Rattle.bus_semantics.specs.Fitting.{wish_fits}
-use Rattle.bus_semantics.specs.Plan.{Plan}
-use Rattle.bus_semantics.specs.Wanted.{Wanted, wanted_of}
 use Rattle.feed_queue.specs.Feeds.{times}
 use Rattle.feed_queue.specs.declared.feeds.Feeds.{Feeds}
 use Rattle.feed_queue.specs.Given.{lengths_of}

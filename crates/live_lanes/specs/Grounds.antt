@@ -1,12 +1,10 @@
 -- What all who run at the same time know of what they share.
 use Rattle.std.specs.Prelude.{◌≡◌, ℕ, List}
 use Rattle.bus_semantics.specs.declared.script.Mapping.{Mapping}
-use Rattle.bus_semantics.specs.Plan.{Plan}
-use Rattle.bus_semantics.specs.Sound.{IsSound}
+use Rattle.bus_semantics.specs.Common.{Plan, IsSound}
 use Rattle.task_machine.specs.declared.instr.TaskSet.{TaskSet}
 use Rattle.task_generator.specs.Promise.{AsksAsPlanned}
-use Rattle.cross_core_table.specs.Logs.{plan_in}
-use Rattle.cross_core_table.specs.OpenRounds.{OpenRound}
+use Rattle.cross_core_table.specs.Common.{plan_in, OpenRound}
 use Rattle.feed_queue.specs.declared.feeds.Feeds.{Feeds}
 use Rattle.feed_queue.specs.Given.{lengths_of}
 use Rattle.live_lanes.specs.Calls.{HaveStood}

@@ -6,8 +6,7 @@ use Rattle.task_machine.specs.declared.instr.TaskSet.{TaskSet}
 use Rattle.core_turn.specs.Cores.{CoreState}
 use Rattle.core_turn.specs.Ready.{IsReady}
 use Rattle.cross_core_table.specs.declared.seats.CoreSeat.{CoreSeat}
-use Rattle.cross_core_table.specs.OpenRounds.{OpenRound}
-use Rattle.cross_core_table.specs.Seats.{IsSeatOf, view_of, made_of}
+use Rattle.cross_core_table.specs.Common.{OpenRound, IsSeatOf, view_of, made_of}
 use Rattle.core_lanes.specs.Rooms.{HasRoom}
 use Rattle.core_lanes.specs.Taking.{TakesTurns}
 use Rattle.live_lanes.specs.declared.lanes.Lane.{Lane}

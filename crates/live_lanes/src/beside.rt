@@ -1,8 +1,7 @@
 //! Turns of cores beside calls of the environment.
 
 ghost use Rattle.std.specs.Prelude.{◌≡◌, ◌≤◌, ◌+◌, ◌++◌, suc, List, [], length};
-ghost use Rattle.std.specs.Vec.{vec_capacity};
-ghost use Rattle.bus_semantics.specs.Plan.{Plan, plan_of};
+ghost use Rattle.bus_semantics.specs.Common.{vec_capacity, Plan, plan_of};
 ghost use Rattle.port_objects.specs.declared.object.Object.{Object};
 ghost use Rattle.port_objects.specs.Objects.{ArePlans};
 ghost use Rattle.task_machine.specs.declared.instr.TaskSet.{TaskSet};

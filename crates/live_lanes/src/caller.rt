@@ -1,8 +1,7 @@
 //! The environment's seat, and the pump.
 
 ghost use Rattle.std.specs.Prelude.{◌≡◌, ◌<◌, Some, length, slice_get, sum, true};
-ghost use Rattle.bus_semantics.specs.Plan.{plan_of};
-ghost use Rattle.bus_semantics.specs.Wanted.{wanted_of};
+ghost use Rattle.bus_semantics.specs.Common.{plan_of, wanted_of};
 ghost use Rattle.feed_queue.specs.Feeds.{length_of};
 ghost use Rattle.feed_queue.specs.Passes.{IsPumpOf, order_of};
 ghost use Rattle.feed_queue.specs.Given.{lengths_of};

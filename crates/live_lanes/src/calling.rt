@@ -1,13 +1,8 @@
 //! A call of the environment, by a seat of its own.
 
 ghost use Rattle.std.specs.Prelude.{◌≡◌, ◌<◌, length, true, None, Some};
-ghost use Rattle.bus_semantics.specs.declared.entries.Actor.TheVariants.{Env};
-ghost use Rattle.bus_semantics.specs.declared.script.Mapping.{Mapping};
-ghost use Rattle.bus_semantics.specs.Fitting.{wish_fits};
-ghost use Rattle.bus_semantics.specs.Objects.{object_of};
-ghost use Rattle.bus_semantics.specs.Plan.{plan_of};
-ghost use Rattle.bus_semantics.specs.Sound.{IsSound};
-ghost use Rattle.bus_semantics.specs.Wanted.{wanted_of};
+ghost use Rattle.bus_laws.specs.Common.{Env, Mapping};
+ghost use Rattle.bus_semantics.specs.Common.{wish_fits, object_of, plan_of, IsSound, wanted_of};
 ghost use Rattle.port_objects.specs.Freed.{Frees};
 ghost use Rattle.cross_core_table.specs.Logs.{plan_in};
 ghost use Rattle.live_lanes.specs.Calls.{HasCalled, HaveStood};

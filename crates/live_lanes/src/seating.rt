@@ -1,8 +1,7 @@
 //! How cores get their seats, and how they are taken apart again.
 
 ghost use Rattle.std.specs.Prelude.{◌≡◌, ◌≤◌, ◌<◌, ◌++◌, [], length, map};
-ghost use Rattle.std.specs.List.{flat_map};
-ghost use Rattle.std.specs.Vec.{vec_capacity};
+ghost use Rattle.bus_semantics.specs.Common.{flat_map, vec_capacity};
 ghost use Rattle.live_lanes.specs.Lanes.{core_in, seats_in, with_seat};
 ghost use Rattle.live_lanes.specs.Workers.{AreCores, lane_in};
 

@@ -1,14 +1,8 @@
 -- What feeds that were read give may be called.
 use Rattle.std.proofs.Common.{◌≡◌, ◌<◌, ◌≤◌, ⊎_elim, ℕ, refl, ap, arith, List, [], map, length, true}
-use Rattle.std.specs.Option.{option_map_or}
-use Rattle.std.specs.List.{All}
-use Rattle.std.proofs.lemmas.Bool.{cases_lt}
-use Rattle.std.proofs.lemmas.Option.{slice_get_past}
-use Rattle.std.proofs.lemmas.List.Elements.{All-nil, All-same}
+use Rattle.bus_semantics.specs.Common.{option_map_or, All, cases_lt, slice_get_past, All-nil, wish_fits, Plan, Wanted, to_tick, wanted_of}
+use Rattle.std.proofs.lemmas.List.Elements.{All-same}
 use Rattle.bus_semantics.specs.declared.entries.Actor.TheVariants.{Env}
-use Rattle.bus_semantics.specs.Fitting.{wish_fits}
-use Rattle.bus_semantics.specs.Plan.{Plan}
-use Rattle.bus_semantics.specs.Wanted.{Wanted, to_tick, wanted_of}
 use Rattle.feed_queue.specs.declared.feeds.Feeds.{Feeds}
 use Rattle.feed_queue.specs.Given.{may_give}
 use Rattle.script_reading.proofs.Carrying.{call_fits}

@@ -1,8 +1,6 @@
 -- The text of a node that was served, line by line.
 use Rattle.std.proofs.Common.{◌≡◌, ℕ, suc, ◌+◌, ◌<◌, List, [], ◌∷◌, ◌++◌, length, take, drop, get_or, Option, true, refl, sym, ap, ◌∙◌, subst, append_assoc, append-nil, drop-cons}
-use Rattle.std.specs.List.{list_all}
-use Rattle.std.proofs.lemmas.Bool.{and_from, and_parts}
-use Rattle.std.proofs.lemmas.List.{take_more, take-append-drop}
+use Rattle.bus_semantics.specs.Common.{list_all, and_from, and_parts, take_more, take-append-drop, fits, History, IsLegal, Plan, plan_of, Session, a_run, entry_text, item_text}
 use Rattle.rte_text.specs.Sinks.{AppendsWhereTold, AppendsPrefixWhereTold}
 use Rattle.rte_text.specs.Told.{appends_both, prefix_after, prefix_first}
 use Rattle.bus_semantics.specs.declared.entries.Entry.{Entry}
@@ -10,13 +8,7 @@ use Rattle.bus_semantics.specs.declared.entries.Stamped.{Stamped}
 use Rattle.bus_semantics.specs.declared.script.Line.TheVariants as line
 use Rattle.bus_semantics.specs.declared.script.Mapping.{Mapping}
 use Rattle.bus_semantics.specs.declared.version.Version.TheVariants.{Two}
-use Rattle.bus_semantics.specs.Fitting.{fits}
-use Rattle.bus_semantics.specs.History.{History}
-use Rattle.bus_semantics.specs.Legal.{IsLegal}
 use Rattle.bus_semantics.specs.declared.plan.BusPlan.{BusPlan}
-use Rattle.bus_semantics.specs.Plan.{Plan, plan_of}
-use Rattle.bus_semantics.specs.Run.{Session, a_run}
-use Rattle.bus_semantics.specs.Spelling.{entry_text, item_text}
 use Rattle.core_lanes.specs.After.{after}
 use Rattle.core_runtime.specs.Nodes.{NodeState}
 use Rattle.script_run.specs.declared.writing.Writing.{Writing}

@@ -1,16 +1,11 @@
 -- What is put of a node that was served: a header, a line for each entry, that of a call behind its feed, then a run line. The format is this project's own.
 use Rattle.std.specs.Prelude.{◌≡◌, ℕ, List, [], ◌∷◌, ◌++◌, codes, decimal, drop, Bool, true, Option, if◌then◌else◌}
-use Rattle.std.specs.List.{list_all}
+use Rattle.bus_semantics.specs.Common.{list_all, Plan, History, item_fits, Session, made, IsSessionOf, IsBeginningOf, Letters, entry_text, item_text}
 use Rattle.rte_text.specs.Sinks.{AppendsWhereTold, AppendsPrefixWhereTold}
 use Rattle.bus_semantics.specs.declared.entries.Stamped.{Stamped}
 use Rattle.bus_semantics.specs.declared.script.Line.TheVariants as line
 use Rattle.bus_semantics.specs.declared.script.Mapping.{Mapping}
 use Rattle.bus_semantics.specs.declared.version.Version.TheVariants.{Two}
-use Rattle.bus_semantics.specs.Plan.{Plan}
-use Rattle.bus_semantics.specs.History.{History}
-use Rattle.bus_semantics.specs.Reading.{item_fits}
-use Rattle.bus_semantics.specs.Run.{Session, made, IsSessionOf, IsBeginningOf}
-use Rattle.bus_semantics.specs.Spelling.{Letters, entry_text, item_text}
 use Rattle.core_lanes.specs.After.{after, is_outside}
 use Rattle.script_run.specs.Legal.{IsLegalFrom}
 use Rattle.script_run.specs.Quieting.{IdlesAreQuiet}

@@ -1,9 +1,7 @@
 -- What comes of serving a node by feeds.
 use Rattle.std.specs.Prelude.{◌≡◌, true}
-use Rattle.bus_semantics.specs.History.{History}
-use Rattle.bus_semantics.specs.Interleaving.{stamps_count}
-use Rattle.core_runtime.specs.After.{after}
-use Rattle.core_runtime.specs.Nodes.{NodeState, IsLawfulNode}
+use Rattle.bus_semantics.specs.Common.{History, stamps_count}
+use Rattle.core_runtime.specs.Common.{after, NodeState, IsLawfulNode}
 use Rattle.feed_queue.specs.Passes.{order_of}
 use Rattle.feed_queue.specs.declared.feeds.Feeds.{Feeds}
 use Rattle.live_lanes.specs.Calls.{called_in}

@@ -6,15 +6,11 @@
 //! waits would hold the node.
 
 ghost use Rattle.std.specs.Prelude.{◌≡◌, ◌≢◌, ◌++◌, true};
-ghost use Rattle.std.specs.List.{list_all};
+ghost use Rattle.bus_semantics.specs.Common.{list_all, History, plan_of, IsSound, entry_text};
 ghost use Rattle.rte_text.specs.declared.sink.Put.TheVariants as put;
 ghost use Rattle.rte_text.specs.Sinks.{SinkFaultsAfter, ToldAfter};
 ghost use Rattle.bus_semantics.specs.declared.script.Mapping.{Mapping};
 ghost use Rattle.bus_semantics.specs.declared.version.Version.TheVariants.{Two};
-ghost use Rattle.bus_semantics.specs.History.{History};
-ghost use Rattle.bus_semantics.specs.Plan.{plan_of};
-ghost use Rattle.bus_semantics.specs.Sound.{IsSound};
-ghost use Rattle.bus_semantics.specs.Spelling.{entry_text};
 ghost use Rattle.core_lanes.specs.After.{after, is_outside};
 ghost use Rattle.core_runtime.specs.Nodes.{IsLawfulNode};
 ghost use Rattle.feed_queue.specs.Passes.{order_of};

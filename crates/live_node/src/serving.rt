@@ -1,8 +1,7 @@
 //! A node that is served by feeds.
 
 ghost use Rattle.std.specs.Prelude.{◌≡◌, ◌≤◌};
-ghost use Rattle.bus_semantics.specs.Plan.{plan_of};
-ghost use Rattle.bus_semantics.specs.Spelling.{Letters};
+ghost use Rattle.bus_semantics.specs.Common.{plan_of, Letters};
 ghost use Rattle.feed_queue.specs.Reading.{AreFeeds};
 ghost use Rattle.core_runtime.specs.Nodes.{IsSameNode};
 ghost use Rattle.live_node.specs.Serving.{IfStopped, IfMemory, IsSameBus, KeepsTheLaw, MakesTheCalls};

@@ -1,13 +1,11 @@
 -- What a call answers is what a kind owes, and what is of a plan stays so.
-use Rattle.std.proofs.Common.{◌≡◌, ◌≤◌, ◌<◌, ◌+◌, ℕ, ℤ, Bool, true, false, ◌&&◌, ◌==◌, if◌then◌else◌, refl, sym, ◌∙◌, ap, subst, arith, le-leb, List, [], ◌∷◌, ◌++◌, length, drop, set, Option, Some, None}
+use Rattle.std.proofs.Common.{◌≡◌, ◌≤◌, ◌<◌, ◌+◌, ℕ, ℤ, Bool, true, false, ◌&&◌, ◌==◌, if◌then◌else◌, refl, sym, ◌∙◌, ap, subst, arith, le-leb, List, [], ◌∷◌, ◌++◌, length, drop, set}
+use Rattle.std.proofs.Common.{Option, Some, None}
 use Rattle.std.specs.Prelude.{is_none, nat_le, nat_lt, option_map, position, unwrap_or}
-use Rattle.std.specs.List.{Contains, list_all, slice_get}
-use Rattle.std.specs.Option.{option_map_or}
-use Rattle.std.proofs.lemmas.Bool.{and_parts, eqb-true, false≢true, ltb-true}
-use Rattle.rte_value.specs.declared.kinds.Step.{Step}
+use Rattle.bus_semantics.specs.Common.{Contains, list_all, slice_get, option_map_or, and_parts, eqb-true, false≢true, ltb-true, Step, words_of, same_words, same_number, empty_value, Plan}
+use Rattle.bus_semantics.specs.Common.{look, kind_of, machine_of_port, Wanted, to_switch, wanted_by, modes_of, switch_fits, first_machine, machine_object, object_of, wish_fits, answer_fits}
+use Rattle.bus_semantics.specs.Common.{phase_fits, start_fits, event_of}
 use Rattle.rte_value.specs.declared.kinds.Step.TheVariants as step
-use Rattle.rte_value.specs.Values.{words_of, same_words, same_number}
-use Rattle.rte_value.specs.ShortValues.{empty_value}
 use Rattle.bus_semantics.specs.declared.plan.MachinePlan.{MachinePlan}
 use Rattle.bus_semantics.specs.declared.plan.ModePortPlan.{ModePortPlan}
 use Rattle.bus_semantics.specs.declared.plan.EventKind.{EventKind}
@@ -16,12 +14,6 @@ use Rattle.bus_semantics.specs.declared.entries.Actor.{Actor}
 use Rattle.bus_semantics.specs.declared.entries.Actor.TheVariants.{Env, Machine, Act}
 use Rattle.bus_semantics.specs.declared.entries.Deed.{Deed}
 use Rattle.bus_semantics.specs.declared.entries.Deed.TheVariants as deed
-use Rattle.bus_semantics.specs.Plan.{Plan, look, kind_of, machine_of_port}
-use Rattle.bus_semantics.specs.Wanted.{Wanted, to_switch, wanted_by}
-use Rattle.bus_semantics.specs.Owners.{modes_of, switch_fits}
-use Rattle.bus_semantics.specs.Objects.{first_machine, machine_object, object_of}
-use Rattle.bus_semantics.specs.Fitting.{wish_fits, answer_fits, phase_fits, start_fits}
-use Rattle.bus_semantics.specs.Asked.{event_of}
 use Rattle.mode_machine.specs.declared.disabling.Admitted.{Admitted}
 use Rattle.mode_machine.specs.declared.disabling.Admitted.TheVariants.{Yes, No, Runs}
 use Rattle.mode_machine.specs.Disabling.{holds_back}
@@ -29,9 +21,7 @@ use Rattle.mode_machine.specs.Kept as machines
 use Rattle.mode_machine.specs.Owed as owed
 use Rattle.object_kinds.specs.declared.acted.Acted.{Acted}
 use Rattle.object_kinds.specs.declared.acted.Acted.TheVariants.{Done, NotYet}
-use Rattle.object_kinds.specs.Kinds.{IsAnswerOf}
-use Rattle.object_kinds.specs.Layout.{place}
-use Rattle.object_kinds.specs.Flags.{given, is_set}
+use Rattle.object_kinds.specs.Common.{IsAnswerOf, place, given, is_set}
 use Rattle.object_kinds.proofs.Events.{events_all}
 use Rattle.object_kinds.proofs.Lists.{all_at, all_end}
 use Rattle.object_kinds.proofs.Options.{given_some, then_some, mapped_some, none_given}

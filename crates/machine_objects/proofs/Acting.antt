@@ -1,19 +1,12 @@
 -- What the calls of a machine answer is what the lead gives.
 use Rattle.std.proofs.Common.{◌≡◌, ◌<◌, ℕ, Bool, true, false, if◌then◌else◌, refl, sym, ◌∙◌, ap, List, [], length, set, Option, Some, None}
 use Rattle.std.specs.Prelude.{unwrap_or, option_map}
-use Rattle.std.specs.List.{slice_get}
-use Rattle.std.proofs.lemmas.Bool.{eq-eqb, false≢true}
-use Rattle.std.proofs.lemmas.Option.{slice_get-get_or}
-use Rattle.rte_value.specs.declared.value.Value.{Value}
-use Rattle.rte_value.specs.declared.kinds.Step.{Step}
+use Rattle.bus_semantics.specs.Common.{slice_get, eq-eqb, false≢true, slice_get-get_or, Value, Step, words_of, same_words-Decides, Wanted, to_start, to_switch, to_see_mode, to_move_on}
+use Rattle.bus_semantics.specs.Common.{to_admit, to_end, wanted_by, event_of, noted_for}
 use Rattle.rte_value.specs.declared.kinds.Step.TheVariants as step
-use Rattle.rte_value.specs.Values.{words_of}
-use Rattle.rte_value.specs.EqualValues.{same_words-Decides}
 use Rattle.bus_semantics.specs.declared.entries.Actor.{Actor}
 use Rattle.bus_semantics.specs.declared.entries.Deed.{Deed}
 use Rattle.bus_semantics.specs.declared.entries.Deed.TheVariants as deed
-use Rattle.bus_semantics.specs.Wanted.{Wanted, to_start, to_switch, to_see_mode, to_move_on, to_admit, to_end, wanted_by}
-use Rattle.bus_semantics.specs.Asked.{event_of, noted_for}
 use Rattle.mode_machine.specs.declared.disabling.Admitted.{Admitted}
 use Rattle.mode_machine.specs.declared.disabling.Admitted.TheVariants.{Yes, No, Runs}
 use Rattle.mode_machine.specs.declared.machine.Advanced.{Advanced}
@@ -22,8 +15,7 @@ use Rattle.mode_machine.specs.Kept as machines
 use Rattle.mode_machine.specs.Owed as owed
 use Rattle.object_kinds.specs.declared.acted.Shown.{Shown}
 use Rattle.object_kinds.specs.declared.acted.Shown.TheVariants.{NotDue, Unmatched}
-use Rattle.object_kinds.specs.Layout.{place}
-use Rattle.object_kinds.specs.Flags.{given}
+use Rattle.object_kinds.specs.Common.{place, given}
 use Rattle.object_kinds.proofs.Lists.{set_same}
 use Rattle.object_kinds.proofs.Options.{given_none}
 use Rattle.machine_objects.specs.Acting.{is_bare, Tells, Leads, Holds, IsActed, IsTaken, IsEnded, admission_by}

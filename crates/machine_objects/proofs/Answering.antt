@@ -1,28 +1,16 @@
 -- What a machine answers is what the bus answers after its past.
 use Rattle.std.proofs.Common.{◌≡◌, ◌≤◌, ◌+◌, inl, inr, ℕ, Bool, true, false, not, ◌&&◌, ◌||◌, ◌==◌, if◌then◌else◌, refl, sym, ◌∙◌, ap, arith, List, [], length, map, drop, Option, Some, None}
 use Rattle.std.specs.Prelude.{is_none, position, nat_lt, option_map}
-use Rattle.std.specs.List.{slice_get}
-use Rattle.std.specs.Option.{option_map_or}
+use Rattle.bus_semantics.specs.Common.{slice_get, option_map_or, cases_lt, eq-eqb, eqb-true, false≢true, ltb-true, lt-ltb, length-drop, list_all-map, Step, same_number, Plan, kind_of}
+use Rattle.bus_semantics.specs.Common.{disabling_of, Past, stage_of, settled_of, next_of, waits_of, is_stable, accepted_switches, closes_of, switch_code, mode_of, first_unbegun, phase_after}
+use Rattle.bus_semantics.specs.Common.{owes, owes_moment, is_done, all_done, disables, admitted_runs, mode_disables, none_runs_disabled, is_disabled, is_disabled_by, same_bool, is_open}
+use Rattle.bus_semantics.specs.Common.{runs_by, IsPastOf}
 use Rattle.std.proofs.Math.Bool.{and-false, and-true}
-use Rattle.std.proofs.lemmas.Bool.{cases_lt, eq-eqb, eqb-true, false≢true, ltb-true, lt-ltb}
-use Rattle.std.proofs.lemmas.List.{length-drop}
-use Rattle.std.proofs.lemmas.List.Folds.{list_all-map}
-use Rattle.rte_value.specs.declared.kinds.Step.{Step}
 use Rattle.rte_value.specs.declared.kinds.Step.TheVariants as step
-use Rattle.rte_value.specs.Values.{same_number}
 use Rattle.bus_semantics.specs.declared.plan.EventKind.{EventKind}
 use Rattle.bus_semantics.specs.declared.plan.EventKind.TheVariants.{Timing, Init, DataReceived, Invoked, Returns, ModeSwitch, Ack}
 use Rattle.bus_semantics.specs.declared.plan.EventPlan.{EventPlan}
 use Rattle.bus_semantics.specs.declared.plan.Disabling.{Disabling}
-use Rattle.bus_semantics.specs.Plan.{Plan, kind_of, disabling_of}
-use Rattle.bus_semantics.specs.History.{Past}
-use Rattle.bus_semantics.specs.Modes.{stage_of, settled_of, next_of, waits_of, is_stable, accepted_switches, closes_of, switch_code, mode_of}
-use Rattle.bus_semantics.specs.Phases.{first_unbegun, phase_after}
-use Rattle.bus_semantics.specs.Owed.{owes, owes_moment, is_done, all_done}
-use Rattle.bus_semantics.specs.Admission.{disables, admitted_runs, mode_disables, none_runs_disabled, is_disabled, is_disabled_by}
-use Rattle.bus_semantics.specs.Legal.{same_bool}
-use Rattle.bus_semantics.specs.Matching.{is_open, runs_by}
-use Rattle.bus_semantics.specs.Pasts.{IsPastOf}
 use Rattle.mode_machine.specs.declared.disabling.Admitted.TheVariants.{Yes, No, Runs}
 use Rattle.mode_machine.specs.declared.owed.OwedEvent.{OwedEvent}
 use Rattle.mode_machine.specs.Disabling.{Dependency, has_mode, holds_back}

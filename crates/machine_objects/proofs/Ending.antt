@@ -1,14 +1,11 @@
 -- What an end makes of a machine, and what it tells.
 use Rattle.std.proofs.Common.{◌≡◌, ◌<◌, ℕ, zero, suc, Bool, true, false, not, ◌&&◌, ◌==◌, if◌then◌else◌, refl, sym, ◌∙◌, ap, subst, arith, List, [], ◌∷◌, length, set, Option, Some, None}
-use Rattle.std.specs.List.{Contains, slice_get, slice_index_or}
+use Rattle.bus_semantics.specs.Common.{Contains, slice_get, slice_index_or, eq-eqb, eqb-true, false≢true, same_Some, slice_get-get_or}
 use Rattle.std.proofs.Math.Bool.{and-false}
-use Rattle.std.proofs.lemmas.Bool.{eq-eqb, eqb-true, false≢true}
-use Rattle.std.proofs.lemmas.Option.{same_Some, slice_get-get_or}
 use Rattle.mode_machine.specs.declared.owed.OwedEvent.{OwedEvent}
 use Rattle.mode_machine.specs.Kept as machines
 use Rattle.mode_machine.specs.Owed as owed
-use Rattle.object_kinds.specs.Layout.{place}
-use Rattle.object_kinds.specs.Flags.{given, is_pending}
+use Rattle.object_kinds.specs.Common.{place, given, is_pending}
 use Rattle.object_kinds.proofs.Lists.{set_same}
 use Rattle.object_kinds.proofs.Options.{clash}
 use Rattle.object_kinds.proofs.Placing.{place_at}

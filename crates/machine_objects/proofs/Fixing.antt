@@ -12,8 +12,7 @@ use Rattle.mode_machine.specs.declared.owed.OwedEvent.{OwedEvent}
 use Rattle.mode_machine.specs.Disabling.{Dependency}
 use Rattle.mode_machine.specs.Kept as machines
 use Rattle.mode_machine.specs.Owed as owed
-use Rattle.object_kinds.specs.Flags.{given, is_set}
-use Rattle.object_kinds.specs.Layout.{place}
+use Rattle.object_kinds.specs.Common.{given, is_set, place}
 use Rattle.object_kinds.proofs.Options.{given_some, then_some}
 use Rattle.machine_objects.specs.Kept.{Kept}
 use Rattle.machine_objects.specs.Leading.{is_made, is_answered, started_at, ended_at, lead_of_machine}

@@ -1,36 +1,19 @@
 -- What the lead of a machine gives follows the past, and stands for the past and the entry.
 use Rattle.std.proofs.Common.{◌≡◌, ℕ, ℤ, Bool, true, false, not, ◌&&◌, ◌==◌, refl, sym, ◌∙◌, ap, List, ◌∷◌, Option, Some, None}
 use Rattle.std.specs.Prelude.{set}
-use Rattle.std.proofs.lemmas.Bool.{and_parts, false≢true}
-use Rattle.rte_value.specs.declared.value.Value.{Value}
-use Rattle.rte_value.specs.declared.kinds.Step.{Step}
-use Rattle.rte_value.specs.Values.{words_of}
+use Rattle.bus_semantics.specs.Common.{and_parts, false≢true, Value, Step, words_of, Plan, kind_of, Noted, Past, start_fits, touches, switch_code, mode_at_port, phase_may_come}
+use Rattle.bus_semantics.specs.Common.{starts_request, is_due_kind, switch_due, is_disabled, same_bool, is_open, runs_by, start_matches, is_proper, Follows, IsPastOf}
 use Rattle.bus_semantics.specs.declared.plan.EventKind.{EventKind}
 use Rattle.bus_semantics.specs.declared.plan.EventKind.TheVariants.{ModeSwitch, Ack}
 use Rattle.bus_semantics.specs.declared.entries.Actor.{Actor}
 use Rattle.bus_semantics.specs.declared.entries.Actor.TheVariants.{Machine}
 use Rattle.bus_semantics.specs.declared.entries.Deed.{Deed}
 use Rattle.bus_semantics.specs.declared.entries.Deed.TheVariants as deed
-use Rattle.bus_semantics.specs.Plan.{Plan, kind_of}
-use Rattle.bus_semantics.specs.History.{Noted, Past}
-use Rattle.bus_semantics.specs.Fitting.{start_fits}
-use Rattle.bus_semantics.specs.Objects.{touches}
-use Rattle.bus_semantics.specs.Modes.{switch_code, mode_at_port}
-use Rattle.bus_semantics.specs.Phases.{phase_may_come}
-use Rattle.bus_semantics.specs.Calls.{starts_request}
-use Rattle.bus_semantics.specs.Due.{is_due_kind, switch_due}
-use Rattle.bus_semantics.specs.Admission.{is_disabled}
-use Rattle.bus_semantics.specs.Legal.{same_bool}
-use Rattle.bus_semantics.specs.Matching.{is_open, runs_by, start_matches}
-use Rattle.bus_semantics.specs.Locality.{is_proper}
-use Rattle.bus_semantics.specs.Pasts.{Follows, IsPastOf}
 use Rattle.mode_machine.specs.declared.owed.OwedEvent.{OwedEvent}
 use Rattle.mode_machine.specs.Disabling.{Dependency}
 use Rattle.mode_machine.specs.Kept as machines
 use Rattle.mode_machine.specs.Owed as owed
-use Rattle.object_kinds.specs.Kinds.{LeadsFollow, LeadsKeep}
-use Rattle.object_kinds.specs.Layout.{place}
-use Rattle.object_kinds.specs.Flags.{given, is_set}
+use Rattle.object_kinds.specs.Common.{LeadsFollow, LeadsKeep, place, given, is_set}
 use Rattle.object_kinds.proofs.Flags.{flag_set}
 use Rattle.object_kinds.proofs.Lists.{all_at}
 use Rattle.object_kinds.proofs.Options.{given_some, then_some, mapped_some}
@@ -42,7 +25,8 @@ use Rattle.machine_objects.specs.Leading.{is_made, is_answered, started_at, ende
 use Rattle.machine_objects.specs.Standing.{owed_after, acked_after, machine_after, kept_after, Keeps}
 use Rattle.machine_objects.proofs.Touches.{switching, acked_kind, switch_itself, port_itself, phase_itself}
 use Rattle.machine_objects.proofs.Past.{past_in_order, past_admitted}
-use Rattle.machine_objects.proofs.Steps.{owed_at_is, dependency_at_is, acked_at_is, placed_owed, placed_acked, placed_disabled, mode_step, switch_step, owed_start_step, acked_start_step, admit_step, owed_end_step, disabled_end_step, phase_step}
+use Rattle.machine_objects.proofs.Steps.{owed_at_is, dependency_at_is, acked_at_is, placed_owed, placed_acked, placed_disabled, mode_step, switch_step, owed_start_step, acked_start_step}
+use Rattle.machine_objects.proofs.Steps.{admit_step, owed_end_step, disabled_end_step, phase_step}
 use Rattle.machine_objects.proofs.Answering.{switch_code_same, mode_same, phase_same, admit_same}
 
 -- a start by an event of a machine names no point

@@ -1,26 +1,20 @@
 -- How the parts of a machine are made of a plan.
 use Rattle.std.proofs.Common.{◌≡◌, ◌≤◌, ◌+◌, ℕ, zero, suc, Bool, true, false, ◌||◌, refl, ◌∙◌, ap, subst, arith, List, [], ◌∷◌, length, map, replicate}
 use Rattle.std.specs.Prelude.{filter, is_none}
-use Rattle.std.specs.List.{list_all}
-use Rattle.std.proofs.lemmas.Bool.{false≢true}
-use Rattle.bus_semantics.specs.Plan.{Plan, kind_of, positions}
-use Rattle.bus_semantics.specs.Objects.{first_machine}
-use Rattle.bus_semantics.specs.Owners.{modes_of}
-use Rattle.bus_semantics.specs.Modes.{initial_of, waits_of}
+use Rattle.bus_semantics.specs.Common.{list_all, false≢true, Plan, kind_of, positions, first_machine, modes_of, initial_of, waits_of}
 use Rattle.rte_value.specs.declared.kinds.Step.TheVariants as step
 use Rattle.mode_machine.specs.declared.owed.ModeEvent.{ModeEvent}
 use Rattle.mode_machine.specs.declared.owed.OwedEvent.{OwedEvent}
-use Rattle.mode_machine.specs.Disabling.{Dependency, idle_dependency}
-use Rattle.mode_machine.specs.Owed.{never_owed, owed_by}
+use Rattle.mode_machine.specs.Common.{Dependency, idle_dependency, never_owed, owed_by}
 use Rattle.mode_machine.specs.Kept as machines
-use Rattle.object_kinds.specs.Layout.{place}
-use Rattle.object_kinds.specs.Rising.{is_rising}
+use Rattle.object_kinds.specs.Common.{place, is_rising}
 use Rattle.object_kinds.proofs.Events.{events_all}
 use Rattle.object_kinds.proofs.Placing.{place_none}
 use Rattle.object_kinds.proofs.Positions.{few_positions}
 use Rattle.object_kinds.proofs.Rising.{rising_positions}
 use Rattle.machine_objects.specs.Kept.{opening}
-use Rattle.machine_objects.specs.Layout.{IsMachine, machine_of, places_of, waits_for_phase, waits_for_end, owed_events, ack_events, moment_at, may_disable, disabled_events, disabling_modes, matters, machine_events}
+use Rattle.machine_objects.specs.Layout.{IsMachine, machine_of, places_of, waits_for_phase, waits_for_end, owed_events, ack_events, moment_at, may_disable, disabled_events, disabling_modes}
+use Rattle.machine_objects.specs.Layout.{matters, machine_events}
 use Rattle.machine_objects.specs.Plans.{IsOfPlan}
 use Rattle.machine_objects.proofs.Picking.{all_picked, picked_again}
 use Rattle.machine_objects.proofs.Touches.{owed_no_ack}

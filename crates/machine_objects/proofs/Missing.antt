@@ -1,13 +1,9 @@
 -- A machine of a sound plan misses no entry that may follow its past.
 use Rattle.std.proofs.Common.{◌≡◌, ◌<◌, ◌+◌, ◌⊎◌, inl, inr, ℕ, Bool, true, false, not, ◌&&◌, ◌==◌, refl, sym, ◌∙◌, ap, subst, arith, length, Option, Some, None}
 use Rattle.std.specs.Prelude.{set, is_some}
-use Rattle.std.proofs.lemmas.Bool.{eq-eqb, false≢true}
-use Rattle.std.specs.List.{slice_get}
-use Rattle.std.specs.Option.{option_map_or}
-use Rattle.std.proofs.lemmas.Option.{same_Some, slice_get_within}
-use Rattle.rte_value.specs.declared.value.Value.{Value}
-use Rattle.rte_value.specs.declared.kinds.Step.{Step}
-use Rattle.rte_value.specs.Values.{same_number}
+use Rattle.bus_semantics.specs.Common.{eq-eqb, false≢true, slice_get, option_map_or, same_Some, slice_get_within, Value, Step, same_number, Plan, kind_of, Past, first_machine, disabler_of}
+use Rattle.bus_semantics.specs.Common.{owing, touches, switch_code, mode_of, mode_at_port, phase_may_come, is_due_kind, switch_due, is_open, runs_by, start_matches, is_proper, Follows}
+use Rattle.bus_semantics.specs.Common.{IsPastOf, IsSound}
 use Rattle.bus_semantics.specs.declared.plan.EventKind.{EventKind}
 use Rattle.bus_semantics.specs.declared.plan.EventKind.TheVariants.{Timing, Init, DataReceived, Invoked, Returns, ModeSwitch, Ack}
 use Rattle.bus_semantics.specs.declared.plan.EventPlan.{EventPlan}
@@ -16,23 +12,11 @@ use Rattle.bus_semantics.specs.declared.script.Mapping.{Mapping}
 use Rattle.bus_semantics.specs.declared.entries.Actor.{Actor}
 use Rattle.bus_semantics.specs.declared.entries.Deed.{Deed}
 use Rattle.bus_semantics.specs.declared.entries.Deed.TheVariants as deed
-use Rattle.bus_semantics.specs.Plan.{Plan, kind_of}
-use Rattle.bus_semantics.specs.History.{Past}
-use Rattle.bus_semantics.specs.Objects.{first_machine, disabler_of, owing, touches}
-use Rattle.bus_semantics.specs.Modes.{switch_code, mode_of, mode_at_port}
-use Rattle.bus_semantics.specs.Phases.{phase_may_come}
-use Rattle.bus_semantics.specs.Due.{is_due_kind, switch_due}
-use Rattle.bus_semantics.specs.Matching.{is_open, runs_by, start_matches}
-use Rattle.bus_semantics.specs.Locality.{is_proper}
-use Rattle.bus_semantics.specs.Pasts.{Follows, IsPastOf}
-use Rattle.bus_semantics.specs.Sound.{IsSound}
 use Rattle.mode_machine.specs.declared.owed.OwedEvent.{OwedEvent}
 use Rattle.mode_machine.specs.Disabling.{Dependency}
 use Rattle.mode_machine.specs.Kept as machines
 use Rattle.mode_machine.specs.Owed as owed
-use Rattle.object_kinds.specs.Kinds.{MissesNothing}
-use Rattle.object_kinds.specs.Layout.{place}
-use Rattle.object_kinds.specs.Flags.{given, is_set}
+use Rattle.object_kinds.specs.Common.{MissesNothing, place, given, is_set}
 use Rattle.object_kinds.proofs.Classes.{On, StartsOn, touching_on}
 use Rattle.object_kinds.proofs.Events.{event_placed, events_all, started_within}
 use Rattle.object_kinds.proofs.Flags.{flag_there}

@@ -1,22 +1,15 @@
 -- What one entry leaves of where a machine stands, and makes of its events: an entry that is none of its phases, and one that is.
 use Rattle.std.proofs.Common.{◌≡◌, ℕ, suc, Bool, true, false, not, ◌&&◌, ◌||◌, if◌then◌else◌, refl, ◌∙◌, ap, [], ◌∷◌, Option, Some, None}
 use Rattle.std.specs.Prelude.{unwrap_or}
-use Rattle.std.specs.List.{list_any}
-use Rattle.std.specs.Option.{option_or}
+use Rattle.bus_semantics.specs.Common.{list_any, option_or, false≢true, Step, Plan, kind_of, Noted, Past, newest, is_machine, phase_in, phase_of, stage_of, settled_of, next_of, initial_of}
+use Rattle.bus_semantics.specs.Common.{is_stable_phase, is_close, is_phase, closed_mode, closes_of, stage_owes, owes_moment, is_start_by, is_end_by, started_in_phase, is_done, follows_last}
+use Rattle.bus_semantics.specs.Common.{ends_transition, phase_owes, never_started, switch_due, runs_by}
 use Rattle.std.proofs.Math.Bool.{and-true, or_assoc}
-use Rattle.std.proofs.lemmas.Bool.{false≢true}
-use Rattle.rte_value.specs.declared.kinds.Step.{Step}
 use Rattle.rte_value.specs.declared.kinds.Step.TheVariants as step
 use Rattle.bus_semantics.specs.declared.plan.Moment.{Moment}
 use Rattle.bus_semantics.specs.declared.plan.Moment.TheVariants.{OnExit, OnTransition, OnEntry}
 use Rattle.bus_semantics.specs.declared.entries.Actor.{Actor}
 use Rattle.bus_semantics.specs.declared.entries.Deed.{Deed}
-use Rattle.bus_semantics.specs.Plan.{Plan, kind_of}
-use Rattle.bus_semantics.specs.History.{Noted, Past, newest, is_machine}
-use Rattle.bus_semantics.specs.Modes.{phase_in, phase_of, stage_of, settled_of, next_of, initial_of, is_stable_phase, is_close, is_phase, closed_mode, closes_of}
-use Rattle.bus_semantics.specs.Owed.{stage_owes, owes_moment, is_start_by, is_end_by, started_in_phase, is_done}
-use Rattle.bus_semantics.specs.Due.{follows_last, ends_transition, phase_owes, never_started, switch_due}
-use Rattle.bus_semantics.specs.Matching.{runs_by}
 use Rattle.mode_machine.specs.Kept as machines
 use Rattle.mode_machine.specs.Owed.{owes, owed_by}
 use Rattle.object_kinds.proofs.Proper.{noting}

@@ -1,13 +1,9 @@
 -- What a machine keeps at first is what the definitions give from no entry.
 use Rattle.std.proofs.Common.{◌≡◌, ℕ, Bool, false, refl, sym, ◌∙◌, ap, List, [], ◌∷◌, length, map, replicate}
-use Rattle.std.proofs.Math.Bool.{and-true, or-false}
+use Rattle.bus_semantics.specs.Common.{or-false, Plan, kind_of, initial_of, waits_of, modes_of, stage_owes}
+use Rattle.std.proofs.Math.Bool.{and-true}
 use Rattle.rte_value.specs.declared.kinds.Step.TheVariants as step
-use Rattle.bus_semantics.specs.Plan.{Plan, kind_of}
-use Rattle.bus_semantics.specs.Modes.{initial_of, waits_of}
-use Rattle.bus_semantics.specs.Owners.{modes_of}
-use Rattle.bus_semantics.specs.Owed.{stage_owes}
-use Rattle.mode_machine.specs.Disabling.{idle_dependency}
-use Rattle.mode_machine.specs.Owed.{owes, owed_by, never_owed}
+use Rattle.mode_machine.specs.Common.{idle_dependency, owes, owed_by, never_owed}
 use Rattle.machine_objects.specs.Layout.{IsMachine, machine_of, places_of, owed_events, ack_events, disabled_events, moment_in, moment_at, disabling_modes}
 use Rattle.machine_objects.specs.Kept.{opening}
 use Rattle.machine_objects.specs.Standing.{owed_after, acked_after, dependency_after, kept_after, Keeps}

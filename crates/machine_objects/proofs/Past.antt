@@ -2,26 +2,15 @@
 -- that the machine disables runs exactly if it was admitted and has not ended.
 use Rattle.std.proofs.Common.{◌≡◌, ◌≤◌, ◌+◌, inl, inr, ℕ, suc, Bool, true, false, ◌==◌, if◌then◌else◌, refl, sym, ◌∙◌, ap, subst, arith, [], ◌∷◌, ◌++◌, length, Option, Some, None}
 use Rattle.std.specs.Prelude.{unwrap_or}
-use Rattle.std.specs.List.{slice_get}
-use Rattle.std.specs.Option.{option_or}
-use Rattle.std.proofs.lemmas.Bool.{cases_lt, eq-eqb, eqb-true, false≢true}
-use Rattle.std.proofs.lemmas.List.{length-append}
-use Rattle.std.proofs.lemmas.Option.{slice_get_within}
-use Rattle.rte_value.specs.declared.kinds.Step.{Step}
+use Rattle.bus_semantics.specs.Common.{slice_get, option_or, cases_lt, eq-eqb, eqb-true, false≢true, length-append, slice_get_within, Step, same_number, Plan, Past, newest, phase_in}
+use Rattle.bus_semantics.specs.Common.{stage_of, accepted_switches, closes_of, switch_code, is_close, first_unbegun, phase_after, phase_may_come, admitted_runs, is_open, runs_by, Follows}
+use Rattle.bus_semantics.specs.Common.{IsPastOf}
 use Rattle.rte_value.specs.declared.kinds.Step.TheVariants as step
-use Rattle.rte_value.specs.Values.{same_number}
 use Rattle.bus_semantics.specs.declared.plan.MachinePlan.{MachinePlan}
 use Rattle.bus_semantics.specs.declared.entries.Actor.{Actor}
 use Rattle.bus_semantics.specs.declared.entries.Actor.TheVariants.{Machine}
 use Rattle.bus_semantics.specs.declared.entries.Deed.{Deed}
 use Rattle.bus_semantics.specs.declared.entries.Deed.TheVariants as deed
-use Rattle.bus_semantics.specs.Plan.{Plan}
-use Rattle.bus_semantics.specs.History.{Past, newest}
-use Rattle.bus_semantics.specs.Modes.{phase_in, stage_of, accepted_switches, closes_of, switch_code, is_close}
-use Rattle.bus_semantics.specs.Phases.{first_unbegun, phase_after, phase_may_come}
-use Rattle.bus_semantics.specs.Admission.{admitted_runs}
-use Rattle.bus_semantics.specs.Matching.{is_open, runs_by}
-use Rattle.bus_semantics.specs.Pasts.{Follows, IsPastOf}
 use Rattle.object_kinds.proofs.Proper.{noting}
 use Rattle.machine_objects.specs.Layout.{IsMachine, machine_of, places_of, starts_elsewhere}
 use Rattle.machine_objects.proofs.Picking.{item_at}

@@ -1,13 +1,8 @@
 -- What is said of each of a plan's events is said of those that are listed, and first places.
 use Rattle.std.proofs.Common.{◌≡◌, ◌<◌, ◌+◌, ℕ, zero, suc, Bool, true, false, not, ◌&&◌, ◌||◌, if◌then◌else◌, cond, refl, sym, ◌∙◌, ap, subst, arith, List, [], ◌∷◌, length, map, drop, Some, None}
 use Rattle.std.specs.Prelude.{filter, position, is_none, nat_lt}
-use Rattle.std.specs.List.{list_all, slice_get, position_or_len}
-use Rattle.std.proofs.lemmas.Bool.{false≢true, ltb-true, lt-ltb}
-use Rattle.std.proofs.lemmas.List.Elements.{filter-append}
-use Rattle.std.proofs.lemmas.List.Folds.{list_all-append}
-use Rattle.std.proofs.lemmas.Option.{slice_get_within}
+use Rattle.bus_semantics.specs.Common.{list_all, slice_get, position_or_len, false≢true, ltb-true, lt-ltb, filter-append, list_all-append, slice_get_within, Plan, every_from, positions}
 use Rattle.bus_semantics.specs.declared.plan.EventPlan.{EventPlan}
-use Rattle.bus_semantics.specs.Plan.{Plan, every_from, positions}
 use Rattle.object_kinds.proofs.Lists.{all_at, every_at, every_all}
 use Rattle.object_kinds.proofs.Placing.{placed, place_at}
 

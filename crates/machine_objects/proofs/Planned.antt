@@ -1,23 +1,15 @@
 -- The objects of a sound plan that have a machine's number are machines.
 use Rattle.std.proofs.Common.{◌≡◌, ◌≤◌, ◌<◌, ◌+◌, ℕ, Bool, true, false, not, ◌&&◌, ◌||◌, ◌==◌, refl, sym, ◌∙◌, ap, subst, arith, length, Option, Some, None}
 use Rattle.std.specs.Prelude.{nat_le, nat_lt}
-use Rattle.std.specs.List.{slice_get}
-use Rattle.std.specs.Option.{option_map_or}
-use Rattle.std.proofs.lemmas.Bool.{and_parts, eq-eqb, eqb-true, false≢true, leb-true, ltb-true}
-use Rattle.rte_value.specs.Values.{same_number}
+use Rattle.bus_semantics.specs.Common.{slice_get, option_map_or, and_parts, eq-eqb, eqb-true, false≢true, leb-true, ltb-true, same_number, Plan, every_from, kind_of, instance_of, server_of}
+use Rattle.bus_semantics.specs.Common.{bundle_of, first_machine, clock, server_object, object_of_kind, disabler_of, is_in, machine_sound, kind_sound, disabling_sound, may_be_disabled}
+use Rattle.bus_semantics.specs.Common.{is_invoked, event_sound, IsSound}
 use Rattle.bus_semantics.specs.declared.plan.MachinePlan.{MachinePlan}
 use Rattle.bus_semantics.specs.declared.plan.EventPlan.{EventPlan}
 use Rattle.bus_semantics.specs.declared.plan.EventKind.{EventKind}
 use Rattle.bus_semantics.specs.declared.plan.EventKind.TheVariants.{Timing, Init, DataReceived, Invoked, Returns, ModeSwitch, Ack}
 use Rattle.bus_semantics.specs.declared.plan.Disabling.{Disabling}
 use Rattle.bus_semantics.specs.declared.script.Mapping.{Mapping}
-use Rattle.bus_semantics.specs.Plan.{Plan, every_from, kind_of, instance_of, server_of}
-use Rattle.bus_semantics.specs.Bundles.{bundle_of}
-use Rattle.bus_semantics.specs.Objects.{first_machine, clock, server_object, object_of_kind, disabler_of}
-use Rattle.bus_semantics.specs.SoundPlan.{is_in}
-use Rattle.bus_semantics.specs.SoundElements.{machine_sound}
-use Rattle.bus_semantics.specs.SoundEvents.{kind_sound, disabling_sound, may_be_disabled, is_invoked, event_sound}
-use Rattle.bus_semantics.specs.Sound.{IsSound}
 use Rattle.object_kinds.proofs.Lists.{all_at, every_at}
 use Rattle.object_kinds.proofs.Ranges.{bundle_within, joined_server, switching_machine, acked_machine, disabling_machine}
 use Rattle.machine_objects.specs.Layout.{IsMachine, machine_of, waits_for_phase, waits_for_end, may_disable, starts_elsewhere, mattering}

@@ -1,7 +1,6 @@
 -- Only a phase and an end make a start come.
 use Rattle.std.proofs.Common.{◌≡◌, ℕ, zero, suc, Bool, true, false, ◌==◌, if◌then◌else◌, refl, sym, subst, List, [], ◌∷◌, ◌++◌, set, Option, Some, None}
-use Rattle.std.specs.List.{slice_index_or}
-use Rattle.std.proofs.lemmas.Bool.{false≢true}
+use Rattle.bus_semantics.specs.Common.{slice_index_or, false≢true}
 use Rattle.bus_semantics.specs.declared.entries.Deed.{Deed}
 use Rattle.bus_semantics.specs.declared.entries.Deed.TheVariants as deed
 use Rattle.mode_machine.specs.declared.disabling.Admitted.{Admitted}
@@ -9,9 +8,7 @@ use Rattle.mode_machine.specs.declared.disabling.Admitted.TheVariants.{Yes, No, 
 use Rattle.mode_machine.specs.declared.owed.OwedEvent.{OwedEvent}
 use Rattle.mode_machine.specs.Kept as machines
 use Rattle.mode_machine.specs.Owed as owed
-use Rattle.object_kinds.specs.Kinds.{OthersWakeNothing}
-use Rattle.object_kinds.specs.Layout.{place}
-use Rattle.object_kinds.specs.Flags.{given, is_set, is_pending}
+use Rattle.object_kinds.specs.Common.{OthersWakeNothing, place, given, is_set, is_pending}
 use Rattle.object_kinds.proofs.Flags.{pending_cleared}
 use Rattle.object_kinds.proofs.Options.{given_some, then_some, mapped_some}
 use Rattle.machine_objects.specs.Kept.{Kept, may_start_at, may_start}

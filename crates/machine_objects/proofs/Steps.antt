@@ -1,22 +1,13 @@
 -- What a machine keeps after each entry that touches it, as its calls make it of what it kept before.
 use Rattle.std.proofs.Common.{◌≡◌, ℕ, suc, Bool, true, false, not, ◌&&◌, ◌||◌, ◌==◌, if◌then◌else◌, refl, sym, ◌∙◌, ap, List, [], ◌∷◌, ◌++◌, length, map, drop, set, replicate, Option, Some, None}
-use Rattle.std.specs.List.{list_any, slice_get}
-use Rattle.std.proofs.lemmas.Bool.{eq-eqb, eqb-true, false≢true}
+use Rattle.bus_semantics.specs.Common.{list_any, slice_get, eq-eqb, eqb-true, false≢true, get_or_from_slice_get, Value, Step, Plan, kind_of, positions, Noted, Past, modes_of, phase_of}
+use Rattle.bus_semantics.specs.Common.{stage_of, settled_of, next_of, waits_of, is_stable_phase, is_close, accepted_switches, closes_of, owes_moment, is_start_by, is_end_by}
+use Rattle.bus_semantics.specs.Common.{started_in_phase, is_done, admitted_runs, runs_by}
 use Rattle.std.proofs.lemmas.List.{drop-append-le}
-use Rattle.std.proofs.lemmas.Option.{get_or_from_slice_get}
-use Rattle.rte_value.specs.declared.value.Value.{Value}
-use Rattle.rte_value.specs.declared.kinds.Step.{Step}
 use Rattle.rte_value.specs.declared.kinds.Step.TheVariants as step
 use Rattle.bus_semantics.specs.declared.entries.Actor.{Actor}
 use Rattle.bus_semantics.specs.declared.entries.Actor.TheVariants.{Machine}
 use Rattle.bus_semantics.specs.declared.entries.Deed.TheVariants as deed
-use Rattle.bus_semantics.specs.Plan.{Plan, kind_of, positions}
-use Rattle.bus_semantics.specs.History.{Noted, Past}
-use Rattle.bus_semantics.specs.Owners.{modes_of}
-use Rattle.bus_semantics.specs.Modes.{phase_of, stage_of, settled_of, next_of, waits_of, is_stable_phase, is_close, accepted_switches, closes_of}
-use Rattle.bus_semantics.specs.Owed.{owes_moment, is_start_by, is_end_by, started_in_phase, is_done}
-use Rattle.bus_semantics.specs.Admission.{admitted_runs}
-use Rattle.bus_semantics.specs.Matching.{runs_by}
 use Rattle.mode_machine.specs.declared.owed.OwedEvent.{OwedEvent}
 use Rattle.mode_machine.specs.declared.disabling.Admitted.{Admitted}
 use Rattle.mode_machine.specs.declared.disabling.Admitted.TheVariants.{Yes, No, Runs}
@@ -29,11 +20,13 @@ use Rattle.object_kinds.proofs.Lists.{map_all, filled_all, mapped_at, all_at, al
 use Rattle.object_kinds.proofs.Placing.{place_at, set_all, other_way}
 use Rattle.object_kinds.proofs.Positions.{distinct_positions}
 use Rattle.object_kinds.proofs.Proper.{noting}
-use Rattle.machine_objects.specs.Layout.{IsMachine, machine_of, places_of, waits_for_phase, waits_for_end, owed_events, ack_events, moment_in, moment_at, may_disable, disabled_events, disabling_modes, starts_elsewhere}
+use Rattle.machine_objects.specs.Layout.{IsMachine, machine_of, places_of, waits_for_phase, waits_for_end, owed_events, ack_events, moment_in, moment_at, may_disable, disabled_events}
+use Rattle.machine_objects.specs.Layout.{disabling_modes, starts_elsewhere}
 use Rattle.machine_objects.specs.Leading.{is_answered}
 use Rattle.machine_objects.specs.Standing.{owed_after, acked_after, dependency_after, machine_after}
 use Rattle.machine_objects.proofs.Picking.{mapped_through, one_less}
-use Rattle.machine_objects.proofs.Moves.{no_phase, stage_stays, next_stays, settled_stays, stable_stays, closes_stay, acked_next, owed_stays, owed_started, owed_ended, done_begun, stage_is, next_is, settled_is, stable_is, closes_is, owed_phase, acked_phase}
+use Rattle.machine_objects.proofs.Moves.{no_phase, stage_stays, next_stays, settled_stays, stable_stays, closes_stay, acked_next, owed_stays, owed_started, owed_ended, done_begun, stage_is}
+use Rattle.machine_objects.proofs.Moves.{next_is, settled_is, stable_is, closes_is, owed_phase, acked_phase}
 use Rattle.machine_objects.proofs.Touches.{differ, owed_no_ack, ack_not_owed, owed_here}
 use Rattle.machine_objects.proofs.Past.{InOrder, accepted_is}
 

@@ -1,14 +1,11 @@
 -- What a phase and an end tell is exactly what they made pending.
 use Rattle.std.proofs.Common.{◌≡◌, ◌⊎◌, inl, inr, ℕ, zero, suc, Bool, true, false, refl, sym, ◌∙◌, ap, List, [], ◌∷◌, Option, Some, None}
 use Rattle.std.specs.Prelude.{is_none}
-use Rattle.std.specs.List.{Contains, list_all, slice_get, slice_index_or}
-use Rattle.std.proofs.lemmas.Bool.{false≢true}
+use Rattle.bus_semantics.specs.Common.{Contains, list_all, slice_get, slice_index_or, false≢true}
 use Rattle.bus_semantics.specs.declared.entries.Deed.{Deed}
 use Rattle.mode_machine.specs.Kept as machines
 use Rattle.mode_machine.specs.Owed as owed
-use Rattle.object_kinds.specs.Layout.{place}
-use Rattle.object_kinds.specs.Flags.{is_set}
-use Rattle.object_kinds.specs.Rising.{is_rising}
+use Rattle.object_kinds.specs.Common.{place, is_set, is_rising}
 use Rattle.object_kinds.proofs.Lists.{all_at}
 use Rattle.object_kinds.proofs.Options.{clash}
 use Rattle.object_kinds.proofs.Placing.{place_at}

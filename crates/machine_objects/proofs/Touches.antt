@@ -1,16 +1,13 @@
 -- What an entry that touches a machine names: the machine itself, a port of it, or an event that it starts or disables.
 use Rattle.std.proofs.Common.{◌≡◌, ◌+◌, ℕ, Bool, true, false, not, ◌==◌, refl, sym, ◌∙◌, ap, arith, Option, Some, None}
-use Rattle.std.proofs.lemmas.Bool.{eq-eqb, eqb-true, false≢true}
-use Rattle.rte_value.specs.declared.kinds.Step.{Step}
-use Rattle.rte_value.specs.Values.{same_number}
+use Rattle.bus_semantics.specs.Common.{eq-eqb, eqb-true, false≢true, Step, same_number, Plan, kind_of, machine_of_port, first_machine, machine_object, object_of_kind, disabler_of}
+use Rattle.bus_semantics.specs.Common.{machine_of_event, touches}
 use Rattle.bus_semantics.specs.declared.plan.EventKind.{EventKind}
 use Rattle.bus_semantics.specs.declared.plan.EventKind.TheVariants.{ModeSwitch, Ack}
 use Rattle.bus_semantics.specs.declared.plan.Moment.{Moment}
 use Rattle.bus_semantics.specs.declared.entries.Actor.{Actor}
 use Rattle.bus_semantics.specs.declared.entries.Actor.TheVariants.{Env, Machine, Act}
 use Rattle.bus_semantics.specs.declared.entries.Deed.TheVariants as deed
-use Rattle.bus_semantics.specs.Plan.{Plan, kind_of, machine_of_port}
-use Rattle.bus_semantics.specs.Objects.{first_machine, machine_object, object_of_kind, disabler_of, machine_of_event, touches}
 use Rattle.object_kinds.proofs.Lists.{all_at}
 use Rattle.object_kinds.proofs.Options.{clash}
 use Rattle.object_kinds.proofs.Placing.{Placed, place_at}

@@ -1,15 +1,11 @@
 -- What the calls of a machine answer, each for its own wish: the entry by which what was kept leads on, or that no entry of the wish leads
 -- anywhere.
 use Rattle.std.specs.Prelude.{◌≡◌, ℕ, [], Bool, true, false, ◌&&◌, Option, Some, None, is_none, unwrap_or}
-use Rattle.std.specs.List.{Contains}
-use Rattle.rte_value.specs.Values.{words_of, same_words}
+use Rattle.bus_semantics.specs.Common.{Contains, words_of, same_words, Noted, Wanted, wanted_by, event_of, noted_for}
 use Rattle.bus_semantics.specs.declared.entries.Actor.{Actor}
 use Rattle.bus_semantics.specs.declared.entries.Deed.{Deed}
 use Rattle.bus_semantics.specs.declared.entries.Deed.TheVariants as deed
 use Rattle.bus_semantics.specs.declared.entries.Entry.{Entry}
-use Rattle.bus_semantics.specs.History.{Noted}
-use Rattle.bus_semantics.specs.Wanted.{Wanted, wanted_by}
-use Rattle.bus_semantics.specs.Asked.{event_of, noted_for}
 use Rattle.mode_machine.specs.declared.disabling.Admitted.{Admitted}
 use Rattle.mode_machine.specs.declared.disabling.Admitted.TheVariants.{Yes, No, Runs}
 use Rattle.mode_machine.specs.Kept as machines

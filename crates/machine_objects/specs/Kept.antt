@@ -1,13 +1,10 @@
 -- What a mode machine keeps, as plain data (SWS_RTE: mode switch procedure, Rte_Switch, SwcModeSwitchEvent, ModeSwitchedAckEvent,
 -- ModeDisablingDependency).
 use Rattle.std.specs.Prelude.{ℕ, List, length, map, Bool, Option, Some, None}
-use Rattle.bus_semantics.specs.Plan.{Plan}
-use Rattle.bus_semantics.specs.Owners.{modes_of}
-use Rattle.bus_semantics.specs.Modes.{initial_of, waits_of}
+use Rattle.bus_semantics.specs.Common.{Plan, modes_of, initial_of, waits_of}
 use Rattle.mode_machine.specs.Kept as machines
 use Rattle.mode_machine.specs.Owed as owed
-use Rattle.object_kinds.specs.Layout.{place}
-use Rattle.object_kinds.specs.Flags.{is_pending}
+use Rattle.object_kinds.specs.Common.{place, is_pending}
 use Rattle.machine_objects.specs.Layout.{places_of, owed_events, ack_events, disabled_events, moment_at, disabling_modes}
 
 -- the plan's SwcModeSwitchEvents and ModeSwitchedAckEvents of the machine and the events that it disables, each in rising order, and what

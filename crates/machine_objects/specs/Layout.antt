@@ -1,19 +1,14 @@
 -- What of a plan belongs to a mode machine: its number, and the events that it starts or disables (SWS_RTE: SwcModeSwitchEvent,
 -- ModeSwitchedAckEvent, ModeDisablingDependency).
 use Rattle.std.specs.Prelude.{◌≡◌, ℕ, ◌≤◌, ◌<◌, ◌-◌, ◌^◌, ◌==◌, List, [], length, filter, Bool, true, false, not, ◌||◌, Option, Some}
-use Rattle.std.specs.List.{list_all}
-use Rattle.std.specs.Option.{option_map_or}
-use Rattle.rte_value.specs.Values.{same_number}
+use Rattle.bus_semantics.specs.Common.{list_all, option_map_or, same_number, Plan, look, kind_of, disabling_of, positions, first_machine, clock, object_of_kind, disabler_of, modes_of}
+use Rattle.bus_semantics.specs.Common.{initial_of}
 use Rattle.bus_semantics.specs.declared.plan.MachinePlan.{MachinePlan}
 use Rattle.bus_semantics.specs.declared.plan.EventKind.{EventKind}
 use Rattle.bus_semantics.specs.declared.plan.EventKind.TheVariants.{ModeSwitch, Ack}
 use Rattle.bus_semantics.specs.declared.plan.Disabling.{Disabling}
 use Rattle.bus_semantics.specs.declared.plan.Moment.{Moment}
 use Rattle.bus_semantics.specs.declared.plan.Moment.TheVariants as moment
-use Rattle.bus_semantics.specs.Plan.{Plan, look, kind_of, disabling_of, positions}
-use Rattle.bus_semantics.specs.Objects.{first_machine, clock, object_of_kind, disabler_of}
-use Rattle.bus_semantics.specs.Owners.{modes_of}
-use Rattle.bus_semantics.specs.Modes.{initial_of}
 use Rattle.mode_machine.specs.declared.owed.ModeEvent.{ModeEvent}
 use Rattle.mode_machine.specs.declared.owed.ModeEvent.TheVariants.{OnExit, OnTransition, OnEntry}
 use Rattle.object_kinds.specs.Layout.{events_of}

@@ -2,12 +2,10 @@
 -- Rte_Mode, mode switch procedure, SwcModeSwitchEvent, ModeSwitchedAckEvent, ModeDisablingDependency). It is a function of plain data, and
 -- knows no history. The entry touches the machine.
 use Rattle.std.specs.Prelude.{ℕ, set, Bool, true, false, not, ◌==◌, Option, Some, None, option_map, option_and_then, slice_index_or}
-use Rattle.rte_value.specs.declared.kinds.Step.{Step}
+use Rattle.bus_semantics.specs.Common.{Step, Noted, Wanted, to_start, to_move_on}
 use Rattle.rte_value.specs.declared.kinds.Step.TheVariants as step
 use Rattle.bus_semantics.specs.declared.entries.Deed.{Deed}
 use Rattle.bus_semantics.specs.declared.entries.Deed.TheVariants as deed
-use Rattle.bus_semantics.specs.History.{Noted}
-use Rattle.bus_semantics.specs.Wanted.{Wanted, to_start, to_move_on}
 use Rattle.mode_machine.specs.declared.disabling.Admitted.{Admitted}
 use Rattle.mode_machine.specs.declared.disabling.Admitted.TheVariants.{Yes, No, Runs}
 use Rattle.mode_machine.specs.declared.machine.Advanced.{Advanced}
@@ -16,8 +14,7 @@ use Rattle.mode_machine.specs.Kept as machines
 use Rattle.mode_machine.specs.Owed as owed
 use Rattle.object_kinds.specs.declared.acted.Shown.{Shown}
 use Rattle.object_kinds.specs.declared.acted.Shown.TheVariants.{NotDue, NoSwitch, Running, Owed, Unmatched}
-use Rattle.object_kinds.specs.Layout.{place}
-use Rattle.object_kinds.specs.Flags.{given, is_set}
+use Rattle.object_kinds.specs.Common.{place, given, is_set}
 use Rattle.machine_objects.specs.Kept.{Kept}
 
 -- ---- phases (mode switch procedure)

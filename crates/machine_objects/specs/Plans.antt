@@ -1,14 +1,7 @@
 -- A machine as it is of a plan: what no call changes, and that each mode in it is one of the plan's.
 use Rattle.std.specs.Prelude.{◌≡◌, ℕ, ◌<◌, length, map, true, nat_lt, Some}
-use Rattle.std.specs.List.{list_all}
-use Rattle.rte_value.specs.Values.{same_number}
+use Rattle.bus_semantics.specs.Common.{list_all, same_number, Plan, modes_of, waits_of, object_of, wish_fits, Wanted}
 use Rattle.bus_semantics.specs.declared.entries.Actor.{Actor}
-use Rattle.bus_semantics.specs.Plan.{Plan}
-use Rattle.bus_semantics.specs.Owners.{modes_of}
-use Rattle.bus_semantics.specs.Modes.{waits_of}
-use Rattle.bus_semantics.specs.Objects.{object_of}
-use Rattle.bus_semantics.specs.Fitting.{wish_fits}
-use Rattle.bus_semantics.specs.Wanted.{Wanted}
 use Rattle.mode_machine.specs.declared.owed.OwedEvent.{OwedEvent}
 use Rattle.mode_machine.specs.Disabling.{Dependency}
 use Rattle.machine_objects.specs.Layout.{IsMachine, machine_of, places_of, owed_events, ack_events, disabled_events, moment_at, disabling_modes, matters, machine_for}

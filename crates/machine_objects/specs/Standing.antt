@@ -1,14 +1,7 @@
 -- What a mode machine keeps, as the definitions give it from a past of the machine.
 use Rattle.std.specs.Prelude.{◌≡◌, ℕ, map, drop, Bool, not, ◌&&◌}
-use Rattle.std.specs.List.{list_any}
-use Rattle.bus_semantics.specs.Plan.{Plan, kind_of}
-use Rattle.bus_semantics.specs.History.{Past}
-use Rattle.bus_semantics.specs.Owners.{modes_of}
-use Rattle.bus_semantics.specs.Modes.{phase_of, stage_of, settled_of, next_of, waits_of, is_stable_phase, accepted_switches, closes_of}
-use Rattle.bus_semantics.specs.Owed.{is_start_by, owes_moment, started_in_phase, is_done}
-use Rattle.bus_semantics.specs.Due.{follows_last, ends_transition, switch_due}
-use Rattle.bus_semantics.specs.Admission.{admitted_runs}
-use Rattle.bus_semantics.specs.Matching.{is_open, runs_by}
+use Rattle.bus_semantics.specs.Common.{list_any, Plan, kind_of, Past, modes_of, phase_of, stage_of, settled_of, next_of, waits_of, is_stable_phase, accepted_switches, closes_of, is_start_by}
+use Rattle.bus_semantics.specs.Common.{owes_moment, started_in_phase, is_done, follows_last, ends_transition, switch_due, admitted_runs, is_open, runs_by}
 use Rattle.mode_machine.specs.declared.owed.OwedEvent.{OwedEvent}
 use Rattle.mode_machine.specs.Disabling.{Dependency}
 use Rattle.mode_machine.specs.Kept as machines

@@ -1,8 +1,7 @@
 //! The events that each machine starts or disables.
 
 ghost use Rattle.std.specs.Prelude.{◌≡◌, ℕ, ◌<◌, ◌^◌, ◌++◌, ◌==◌, [], ◌∷◌, length, IfOk, OnOk, if◌then◌else◌};
-ghost use Rattle.bus_semantics.specs.Plan.{plan_of};
-ghost use Rattle.bus_semantics.specs.Objects.{disabler_of};
+ghost use Rattle.bus_semantics.specs.Common.{plan_of, disabler_of};
 ghost use Rattle.object_kinds.specs.Gathered.{listed_at};
 ghost use Rattle.machine_objects.specs.Layout.{machine_events, machine_for, matters};
 ghost use Rattle.machine_objects.specs.Plans.{AreTheirs};

@@ -2,11 +2,7 @@
 
 ghost use Rattle.std.specs.Prelude.{◌≡◌, ◌≤◌, ◌<◌, ℕ, [], None, false, unwrap_or};
 ghost use Rattle.bus_semantics.specs.declared.script.Mapping.{Mapping};
-ghost use Rattle.bus_semantics.specs.Plan.{Plan};
-ghost use Rattle.bus_semantics.specs.History.{Noted};
-ghost use Rattle.bus_semantics.specs.Objects.{first_machine, clock};
-ghost use Rattle.bus_semantics.specs.Wanted.{to_move_on, wanted_by};
-ghost use Rattle.bus_semantics.specs.Sound.{IsSound};
+ghost use Rattle.bus_semantics.specs.Common.{Plan, Noted, first_machine, clock, to_move_on, wanted_by, IsSound};
 ghost use Rattle.object_kinds.specs.Kinds.{LeadsFollow, LeadsKeep, MissesNothing, StartsByFlag, OthersWakeNothing};
 ghost use Rattle.machine_objects.specs.Layout.{IsMachine, machine_of};
 ghost use Rattle.machine_objects.specs.Kept.{Kept, opening, may_start, may_move};

@@ -1,14 +1,11 @@
 //! A mode machine with the plan's events that it starts or disables.
 
 ghost use Rattle.std.specs.Prelude.{◌≡◌, ℕ, true, false, None, Some, slice_index_or};
-ghost use Rattle.std.specs.List.{Contains};
+ghost use Rattle.bus_semantics.specs.Common.{Contains, Plan, to_switch, to_see_mode, to_move_on, to_start, to_admit, to_end, wanted_of};
 ghost use Rattle.bus_semantics.specs.declared.entries.Entry.{Entry};
-ghost use Rattle.bus_semantics.specs.Plan.{Plan};
-ghost use Rattle.bus_semantics.specs.Wanted.{to_switch, to_see_mode, to_move_on, to_start, to_admit, to_end, wanted_of};
 ghost use Rattle.object_kinds.specs.declared.acted.Shown.{Shown};
 ghost use Rattle.object_kinds.specs.declared.acted.Acted.TheVariants.{Done, NotYet};
-ghost use Rattle.object_kinds.specs.Layout.{place};
-ghost use Rattle.object_kinds.specs.Kinds.{IsAnswerOf};
+ghost use Rattle.object_kinds.specs.Common.{place, IsAnswerOf};
 ghost use Rattle.machine_objects.specs.Acting.{IsActed, IsEnded, IsTaken, admission_by};
 ghost use Rattle.machine_objects.specs.Kept.{may_move, may_start};
 ghost use Rattle.machine_objects.specs.Leading.{ended_at, lead, started_at, why_held, wakes};

@@ -1,10 +1,7 @@
 //! A machine of a plan, made.
 
 ghost use Rattle.std.specs.Prelude.{◌≡◌, ◌<◌, ◌≤◌, ◌+◌, ◌^◌, ◌++◌, [], ◌∷◌, IfOk, OnOk, if◌then◌else◌, filter, length, map};
-ghost use Rattle.bus_semantics.specs.Plan.{plan_of, kind_of};
-ghost use Rattle.bus_semantics.specs.Objects.{first_machine};
-ghost use Rattle.bus_semantics.specs.Owners.{modes_of};
-ghost use Rattle.bus_semantics.specs.Modes.{initial_of, waits_of};
+ghost use Rattle.bus_semantics.specs.Common.{plan_of, kind_of, first_machine, modes_of, initial_of, waits_of};
 ghost use Rattle.mode_machine.specs.Disabling.{modes_in};
 ghost use Rattle.mode_machine.specs.Kept as machines;
 ghost use Rattle.machine_objects.specs.Kept.{opening};

@@ -1,18 +1,9 @@
 -- The turns of the loops that add edges to a set.
-use Rattle.std.proofs.Common.{◌≡◌, ℕ, zero, suc, ◌+◌, ◌<◌, List, [], ◌∷◌, length, get_or, drop, Bool, true, false, cond, ◌||◌, ◌&&◌, nat_eq, slice_get, Some, None, option_and_then, refl, sym, ap, ◌∙◌, arith, add-one}
-use Rattle.std.proofs.lemmas.Bool.{eqb-true}
-use Rattle.std.proofs.Math.Bool.{or-false}
-use Rattle.std.specs.List.{list_all}
-use Rattle.std.specs.Option.{option_map_or}
-use Rattle.description_types.specs.declared.component.Component.{Component}
-use Rattle.description_types.specs.declared.component.Event.{Event}
-use Rattle.description_types.specs.declared.component.Runnable.{Runnable}
-use Rattle.description_types.specs.declared.description.Description.{Description}
-use Rattle.description_types.specs.declared.flat.Flat.{Flat}
-use Rattle.description_types.specs.declared.flat.Instance.{Instance}
-use Rattle.plan_definitions.specs.Parts.{component_of}
+use Rattle.std.proofs.Common.{◌≡◌, ℕ, zero, suc, ◌+◌, ◌<◌, List, [], ◌∷◌, length, get_or, drop, Bool, true, false, cond, ◌||◌, ◌&&◌, nat_eq, slice_get, Some, None, option_and_then, refl}
+use Rattle.std.proofs.Common.{sym, ap, ◌∙◌, arith, add-one}
+use Rattle.bus_semantics.specs.Common.{eqb-true, or-false, list_all, option_map_or}
+use Rattle.plan_definitions.specs.Common.{Component, Event, Runnable, Description, Flat, Instance, component_of, are_same, tasks_from, waits_by}
 use Rattle.mapping_rules.specs.Groups.{values_at}
-use Rattle.plan_definitions.specs.MappingRules.{are_same, tasks_from, waits_by}
 use Rattle.mapping_rules.specs.Waiting.{any_at, leads, pairs, waits_in}
 
 -- what was there, what is added, and what is still to come

@@ -1,11 +1,7 @@
 -- Ends as keys.
 use Rattle.std.proofs.Common.{◌≡◌, ℕ, ◌+◌, List, [], ◌∷◌, ◌++◌, map, Bool, true, false, cond, ◌&&◌, ◌||◌, nat_eq, is_some, is_none, Option, Some, option_map, refl, ◌∙◌, find}
-use Rattle.std.specs.List.{list_any, flat_map, position_from}
-use Rattle.std.specs.Map.{lookup}
-use Rattle.std.specs.Option.{option_eq}
-use Rattle.description_types.specs.declared.flat.End.{End}
-use Rattle.description_types.specs.declared.flat.Join.{Join}
-use Rattle.plan_definitions.specs.Joined.{same_end, provider_of}
+use Rattle.bus_semantics.specs.Common.{list_any, flat_map, position_from, lookup, option_eq}
+use Rattle.plan_definitions.specs.Common.{End, Join, same_end, provider_of}
 use Rattle.mapping_rules.specs.Listed.{triple, provided_for, outside_at}
 use Rattle.plan_definitions.proofs.Keys.{nat_eq_sym, option_eq_sym}
 

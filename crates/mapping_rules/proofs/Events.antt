@@ -1,20 +1,11 @@
 -- The events of instances, and those that are mapped.
-use Rattle.std.proofs.Common.{◌≡◌, ℕ, suc, ◌+◌, List, [], ◌∷◌, ◌++◌, map, filter, length, Bool, true, false, cond, not, ◌||◌, ◌==◌, nat_eq, bytes_eq, Option, Some, None, Bor, option_map, option_and_then, refl, ap, ◌∙◌, arith}
-use Rattle.std.proofs.lemmas.Bool.{eqb-true}
-use Rattle.std.specs.List.{list_any, flat_map, position_from}
-use Rattle.std.specs.Option.{option_map_or}
-use Rattle.description_types.specs.declared.component.Component.{Component}
-use Rattle.description_types.specs.declared.component.Event.{Event}
-use Rattle.description_types.specs.declared.description.Description.{Description}
-use Rattle.description_types.specs.declared.description.MappedEvent.{MappedEvent}
-use Rattle.description_types.specs.declared.flat.Flat.{Flat}
-use Rattle.plan_definitions.specs.Keys.{same_pair}
-use Rattle.plan_definitions.specs.Lists.{from}
+use Rattle.std.proofs.Common.{◌≡◌, ℕ, suc, ◌+◌, List, [], ◌∷◌, ◌++◌, map, filter, length, Bool, true, false, cond, not, ◌||◌, ◌==◌, nat_eq, bytes_eq, Option, Some, None, Bor, option_map}
+use Rattle.std.proofs.Common.{option_and_then, refl, ap, ◌∙◌, arith}
+use Rattle.bus_semantics.specs.Common.{eqb-true, list_any, flat_map, position_from, option_map_or}
+use Rattle.plan_definitions.specs.Common.{Component, Event, Description, MappedEvent, Flat, same_pair, from, event_names, mapped_as, named_by, names, is_mapped, tasks_of_event, tasks_from}
 use Rattle.mapping_rules.specs.Groups.{values_at}
 use Rattle.mapping_rules.specs.Listed.{task_of, tasks_at}
-use Rattle.plan_definitions.specs.Mapped.{event_names, mapped_as, named_by, names, is_mapped}
 use Rattle.mapping_rules.specs.Naming.{names_of}
-use Rattle.plan_definitions.specs.MappingRules.{tasks_of_event, tasks_from}
 use Rattle.mapping_rules.proofs.Named.{same_place}
 
 module _ (name : List ℕ) (i : ℕ) where

@@ -1,8 +1,7 @@
 -- Values under keys of a map.
 use Rattle.std.proofs.Common.{◌≡◌, ℕ, zero, suc, ◌+◌, ◌<◌, ◌≤◌, List, [], ◌∷◌, ◌++◌, length, map, filter, take, get_or, Bool, true, false, cond, Some, None, Vec, refl, sym, ap, ◌∙◌, arith, add-one}
-use Rattle.std.proofs.lemmas.List.{append-nil}
+use Rattle.bus_semantics.specs.Common.{append-nil, Global}
 use Rattle.std.specs.Cmp.{IsEquivalence}
-use Rattle.std.specs.Global.{Global}
 use Rattle.std.specs.HashMap.{HashMap, UpdatesBy, Updates, get, get_by}
 use Rattle.mapping_rules.specs.Groups.{under, values_at}
 

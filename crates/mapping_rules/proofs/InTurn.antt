@@ -1,12 +1,7 @@
 -- The turns of the loops over instances.
 use Rattle.std.proofs.Common.{◌≡◌, ℕ, zero, suc, ◌+◌, ◌<◌, List, [], ◌∷◌, length, drop, Option, Some, None, option_and_then, slice_get, refl, sym, ap, ◌∙◌, arith, add-one}
 use Rattle.std.specs.Option.{option_or}
-use Rattle.plan_definitions.specs.Firsts.{first_of}
-use Rattle.description_types.specs.declared.component.Component.{Component}
-use Rattle.description_types.specs.declared.description.Description.{Description}
-use Rattle.description_types.specs.declared.flat.Flat.{Flat}
-use Rattle.description_types.specs.declared.flat.Instance.{Instance}
-use Rattle.plan_definitions.specs.Parts.{component_of}
+use Rattle.plan_definitions.specs.Common.{first_of, Component, Description, Flat, Instance, component_of}
 
 module _ {X : Type 0} (d : Description) (g : ℕ → Component → Option X) where
   abbrev at : ℕ → Instance → Option X

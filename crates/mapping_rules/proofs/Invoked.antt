@@ -1,15 +1,9 @@
 -- The event by which an operation is invoked.
 use Rattle.std.proofs.Common.{◌≡◌, ℕ, ◌+◌, List, [], ◌∷◌, ◌++◌, cond, Option, Some, None, option_map, option_and_then, refl, ap, ◌∙◌}
-use Rattle.std.specs.List.{position_from}
-use Rattle.std.specs.Map.{lookup}
-use Rattle.description_types.specs.declared.component.Component.{Component}
-use Rattle.description_types.specs.declared.component.Event.{Event}
-use Rattle.description_types.specs.declared.component.EventKind.{EventKind}
-use Rattle.description_types.specs.declared.component.EventKind.TheVariants.{Timing, Init, DataReceived, OperationInvoked, CallReturns, ModeSwitch, ModeSwitchedAck}
-use Rattle.plan_definitions.specs.Keys.{same_pair}
-use Rattle.plan_definitions.specs.Lists.{from}
+use Rattle.bus_semantics.specs.Common.{position_from, lookup}
+use Rattle.plan_definitions.specs.Common.{Component, Event, EventKind, Timing, Init, DataReceived, OperationInvoked, CallReturns, ModeSwitchedAck, same_pair, from, invokes}
+use Rattle.description_types.specs.declared.component.EventKind.TheVariants.{ModeSwitch}
 use Rattle.mapping_rules.specs.Listed.{invoked_at, invoked_in}
-use Rattle.plan_definitions.specs.Mapped.{invokes}
 
 module _ (k n : ℕ) where
   one : (m : ℕ) (kind : EventKind) (es : List ((ℕ × ℕ) × ℕ)) → lookup (same_pair (k, n)) (invoked_at m kind ++ es) ≡ cond (invokes k n kind) (Some m) (lookup (same_pair (k, n)) es)

@@ -1,7 +1,6 @@
 -- What is found by its key.
 use Rattle.std.proofs.Common.{◌≡◌, ℕ, ◌+◌, List, [], ◌∷◌, map, Bool, cond, Option, Some, option_map, slice_get, refl, sym, ap, ◌∙◌}
-use Rattle.std.proofs.lemmas.Option.{slice_get-map}
-use Rattle.std.specs.List.{position_from}
+use Rattle.bus_semantics.specs.Common.{slice_get-map, position_from}
 
 module _ {X Z : Type 0} (test : Z → Bool) (g : X → Z) where
   pub position_of_map : (n : ℕ) (xs : List X) → position_from (λ x. test (g x)) n xs ≡ position_from test n (map g xs)

@@ -1,19 +1,10 @@
 -- The events of a task, from the entries of all tasks.
 use Rattle.std.proofs.Common.{◌≡◌, ℕ, ◌+◌, List, [], ◌∷◌, ◌++◌, map, filter, Bool, true, false, cond, nat_eq, nat_le, Option, Some, None, option_map, refl, ap, ◌∙◌}
-use Rattle.std.specs.List.{flat_map}
-use Rattle.std.specs.Option.{option_map_or}
-use Rattle.description_types.specs.declared.description.Description.{Description}
-use Rattle.description_types.specs.declared.description.MappedEvent.{MappedEvent}
+use Rattle.bus_semantics.specs.Common.{flat_map, option_map_or}
+use Rattle.plan_definitions.specs.Common.{Description, MappedEvent, Flat, pair_number, from, events_of, named_by, in_order, put, events_in, number_of, task_at}
 use Rattle.description_types.specs.declared.description.Task as declared_task
-use Rattle.description_types.specs.declared.flat.Flat.{Flat}
-use Rattle.plan_definitions.specs.Keys.{pair_number}
-use Rattle.plan_definitions.specs.Lists.{from}
-use Rattle.plan_definitions.specs.Parts.{events_of}
 use Rattle.mapping_rules.specs.Groups.{values_at}
-use Rattle.plan_definitions.specs.Mapped.{named_by}
 use Rattle.mapping_rules.specs.Placing.{in_task, numbers_of, placed_at, task_entry, task_with}
-use Rattle.plan_definitions.specs.Sorting.{in_order, put}
-use Rattle.plan_definitions.specs.Tasks.{events_in, number_of, task_at}
 
 -- a list in order is so after each member is replaced by one with the same number
 module _ {X Y : Type 0} (n : Y → ℕ) (g : X → Y) where

@@ -1,20 +1,11 @@
 -- The edges that are found are the waits of tasks for tasks.
-use Rattle.std.proofs.Common.{◌≡◌, ℕ, zero, suc, ◌+◌, ◌<◌, List, [], ◌∷◌, ◌++◌, Bool, true, false, ◌||◌, ◌&&◌, nat_eq, slice_get, Option, Some, None, option_and_then, inl, inr, ⊎_elim, refl, sym, ap, ◌∙◌, true≢false, arith}
-use Rattle.std.proofs.lemmas.Bool.{eq-eqb, or_cases, or_left, or_right, and_parts, and_from}
+use Rattle.std.proofs.Common.{◌≡◌, ℕ, zero, suc, ◌+◌, ◌<◌, List, [], ◌∷◌, ◌++◌, Bool, true, false, ◌||◌, ◌&&◌, nat_eq, slice_get, Option, Some, None, option_and_then, inl, inr, ⊎_elim, refl}
+use Rattle.std.proofs.Common.{sym, ap, ◌∙◌, true≢false, arith}
+use Rattle.bus_semantics.specs.Common.{eq-eqb, or_cases, or_left, or_right, and_parts, and_from, list_any, flat_map, option_map_or}
 use Rattle.std.proofs.Math.Bool.{and-false}
-use Rattle.std.specs.List.{list_any, flat_map}
-use Rattle.std.specs.Option.{option_map_or}
-use Rattle.description_types.specs.declared.component.Access.{Access}
-use Rattle.description_types.specs.declared.component.Component.{Component}
-use Rattle.description_types.specs.declared.component.Runnable.{Runnable}
-use Rattle.description_types.specs.declared.description.Description.{Description}
-use Rattle.description_types.specs.declared.flat.Flat.{Flat}
-use Rattle.description_types.specs.declared.flat.Instance.{Instance}
-use Rattle.description_types.specs.Members.{Among}
-use Rattle.plan_definitions.specs.Keys.{same_pair}
-use Rattle.plan_definitions.specs.Parts.{component_of}
+use Rattle.plan_definitions.specs.Common.{Access, Component, Runnable, Description, Flat, Instance, Among, same_pair, component_of, Chain, HaveOrder, ReachesItself, TellsOrder, Waits}
+use Rattle.plan_definitions.specs.Common.{tasks_from, waits_by}
 use Rattle.mapping_rules.specs.Edges.{HaveCircle, HaveRanks, IsDecided, Way}
-use Rattle.plan_definitions.specs.MappingRules.{Chain, HaveOrder, ReachesItself, TellsOrder, Waits, tasks_from, waits_by}
 use Rattle.mapping_rules.specs.Waiting.{any_at, has_wait, leads, pairs, waits_in}
 use Rattle.plan_definitions.proofs.Keys.{same_pair_is}
 

@@ -1,17 +1,8 @@
 -- Tasks that are one.
 use Rattle.std.proofs.Common.{◌≡◌, ℕ, List, [], ◌∷◌, true, nat_eq, ◌&&◌, Some, None, slice_get, refl, sym, ap, ◌∙◌}
-use Rattle.std.proofs.lemmas.Bool.{eq-eqb}
-use Rattle.std.specs.List.{list_all}
-use Rattle.std.specs.Option.{option_map_or}
-use Rattle.plan_definitions.specs.Firsts.{first_of, unless}
-use Rattle.description_types.specs.declared.component.Component.{Component}
-use Rattle.description_types.specs.declared.component.Event.{Event}
-use Rattle.description_types.specs.declared.component.Runnable.{Runnable}
-use Rattle.description_types.specs.declared.description.Description.{Description}
-use Rattle.description_types.specs.declared.flat.Flat.{Flat}
-use Rattle.plan_definitions.specs.Parts.{component_of}
+use Rattle.bus_semantics.specs.Common.{eq-eqb, list_all, option_map_or}
+use Rattle.plan_definitions.specs.Common.{first_of, unless, Component, Event, Runnable, Description, Flat, component_of, are_same, spread_in, tasks_from, tasks_of}
 use Rattle.mapping_rules.specs.Groups.{values_at}
-use Rattle.plan_definitions.specs.MappingRules.{are_same, spread_in, tasks_from, tasks_of}
 use Rattle.mapping_rules.proofs.Firsts.{first_same}
 
 pub same_as_first : (t : ℕ) (ts : List ℕ) → Some t ≡ slice_get ts 0 → list_all (λ u. nat_eq t u) ts ≡ are_same ts

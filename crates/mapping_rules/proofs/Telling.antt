@@ -3,11 +3,9 @@ use Rattle.std.proofs.Common.{◌≡◌, ℕ, List, Some, None, Result, Ok, Err,
 use Rattle.std.proofs.lemmas.Option.{same_Some}
 use Rattle.rte_text.specs.declared.refusal.Refused.{Refused}
 use Rattle.rte_text.specs.declared.refusal.Refused.TheVariants.{Rule, Memory}
-use Rattle.description_types.specs.declared.description.Description.{Description}
-use Rattle.description_types.specs.declared.flat.Flat.{Flat}
+use Rattle.plan_definitions.specs.Common.{Description, Flat, IsAfter, IsOfTasks, Tells, mapping_text, of_events, ReachesItself}
 use Rattle.plan_definitions.specs.Telling.{Tells as Says}
-use Rattle.plan_definitions.specs.MappingRefusals.{IsAfter, IsOfTasks, IsRefusal, Tells, mapping_text, of_events}
-use Rattle.plan_definitions.specs.MappingRules.{ReachesItself}
+use Rattle.plan_definitions.specs.MappingRefusals.{IsRefusal}
 
 module _ (d : Description) (f : Flat) where
   -- rule 29 is broken

@@ -1,13 +1,7 @@
 -- Where as many events are listed as are mapped, each of them is named.
 use Rattle.std.proofs.Common.{◌≡◌, ℕ, suc, ◌+◌, ◌≤◌, List, [], ◌∷◌, ◌++◌, length, is_some, Option, Some, None, refl, arith}
-use Rattle.std.specs.List.{flat_map}
-use Rattle.std.specs.Option.{option_map_or, option_or}
-use Rattle.description_types.specs.declared.description.Description.{Description}
-use Rattle.description_types.specs.declared.description.MappedEvent.{MappedEvent}
-use Rattle.description_types.specs.declared.flat.Flat.{Flat}
-use Rattle.plan_definitions.specs.Firsts.{first_of, unless}
-use Rattle.plan_definitions.specs.Mapped.{named_by}
-use Rattle.plan_definitions.specs.MappingRules.{unnamed}
+use Rattle.bus_semantics.specs.Common.{flat_map, option_map_or, option_or}
+use Rattle.plan_definitions.specs.Common.{Description, MappedEvent, Flat, first_of, unless, named_by, unnamed}
 use Rattle.mapping_rules.specs.Listed.{task_of}
 
 module _ (d : Description) (f : Flat) where

@@ -1,22 +1,9 @@
 -- Where no component serves an operation, no task waits for one.
 use Rattle.std.proofs.Common.{◌≡◌, ℕ, zero, suc, ◌+◌, List, [], ◌∷◌, map, length, ◌==◌, Bool, true, false, ◌||◌, is_some, Option, Some, None, option_and_then, slice_get, refl, sym, ap, ◌∙◌, arith}
-use Rattle.std.proofs.lemmas.Bool.{and_parts, eqb-true}
-use Rattle.std.proofs.lemmas.List.Folds.{list_all-map}
-use Rattle.std.specs.List.{list_all, position_from}
-use Rattle.std.specs.Map.{lookup}
-use Rattle.std.specs.Option.{option_map_or}
-use Rattle.runnable_lang.specs.declared.program.AccessKind.{AccessKind}
+use Rattle.bus_semantics.specs.Common.{and_parts, eqb-true, list_all-map, list_all, position_from, lookup, option_map_or, AccessKind}
 use Rattle.runnable_lang.specs.declared.program.AccessKind.TheVariants as kind
-use Rattle.description_types.specs.declared.component.Access.{Access}
-use Rattle.description_types.specs.declared.component.Component.{Component}
-use Rattle.description_types.specs.declared.description.Description.{Description}
-use Rattle.description_types.specs.declared.flat.End.{End}
-use Rattle.description_types.specs.declared.flat.Flat.{Flat}
-use Rattle.description_types.specs.declared.flat.Instance.{Instance}
-use Rattle.plan_definitions.specs.Joined.{end_at, provider_of}
-use Rattle.plan_definitions.specs.Keys.{same_pair}
-use Rattle.plan_definitions.specs.Mapped.{invokes}
-use Rattle.plan_definitions.specs.MappingRules.{task_of_server, tasks_behind, tasks_from, tasks_of_event, waits_by}
+use Rattle.plan_definitions.specs.Common.{Access, Component, Description, End, Flat, Instance, end_at, provider_of, same_pair, invokes, task_of_server, tasks_behind, tasks_from}
+use Rattle.plan_definitions.specs.Common.{tasks_of_event, waits_by}
 use Rattle.mapping_rules.specs.Listed.{invoked_in}
 use Rattle.mapping_rules.specs.Waiting.{any_at, has_wait, leads, pairs, waits_in}
 use Rattle.mapping_rules.proofs.Invoked.{invoked_from}

@@ -1,7 +1,6 @@
 -- Values under keys.
 use Rattle.std.specs.Prelude.{◌≡◌, List, [], map, filter, Bool, Option, Vec}
-use Rattle.std.specs.Global.{Global}
-use Rattle.std.specs.Option.{option_map_or}
+use Rattle.bus_semantics.specs.Common.{Global, option_map_or}
 use Rattle.indexmap.specs.IndexMap.{IndexMap, get}
 
 -- the list that was found, if any

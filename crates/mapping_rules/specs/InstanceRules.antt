@@ -1,12 +1,9 @@
 -- The rules on what each instance has, and the first that breaks one.
 use Rattle.std.specs.Prelude.{ℕ, List, Option, option_map}
-use Rattle.description_types.specs.declared.component.Component.{Component}
-use Rattle.description_types.specs.declared.description.Description.{Description}
-use Rattle.description_types.specs.declared.flat.Flat.{Flat}
+use Rattle.plan_definitions.specs.Common.{Component, Description, Flat, event_text, runnable_text, badly_mapped_in, not_direct_in, spread_in}
 use Rattle.mapping_rules.specs.declared.instances.InstanceRule.{InstanceRule}
 use Rattle.mapping_rules.specs.declared.instances.InstanceRule.TheVariants.{MappedOnce, OneTask, Direct}
-use Rattle.plan_definitions.specs.MappingRefusals.{event_text, runnable_text}
-use Rattle.plan_definitions.specs.MappingRules.{badly_mapped_in, in_instances, not_direct_in, spread_in}
+use Rattle.plan_definitions.specs.MappingRules.{in_instances}
 
 abbrev pub broken_in : InstanceRule → Description → Flat → ℕ → Component → Option (ℕ × ℕ)
 broken_in MappedOnce = badly_mapped_in

@@ -1,18 +1,7 @@
 -- What is listed of the mapping, to be looked up.
 use Rattle.std.specs.Prelude.{ℕ, List, [], ◌∷◌, map, is_none, Option, if◌then◌else◌}
 use Rattle.std.specs.Option.{option_map_or}
-use Rattle.description_types.specs.declared.component.Component.{Component}
-use Rattle.description_types.specs.declared.component.Event.{Event}
-use Rattle.description_types.specs.declared.component.EventKind.{EventKind}
-use Rattle.description_types.specs.declared.component.EventKind.TheVariants.{OperationInvoked}
-use Rattle.description_types.specs.declared.description.Description.{Description}
-use Rattle.description_types.specs.declared.description.MappedEvent.{MappedEvent}
-use Rattle.description_types.specs.declared.flat.End.{End}
-use Rattle.description_types.specs.declared.flat.Flat.{Flat}
-use Rattle.description_types.specs.declared.flat.Join.{Join}
-use Rattle.plan_definitions.specs.Lists.{from}
-use Rattle.plan_definitions.specs.Mapped.{named_by}
-use Rattle.plan_definitions.specs.MappingRules.{tasks_of_event}
+use Rattle.plan_definitions.specs.Common.{Component, Event, EventKind, OperationInvoked, Description, MappedEvent, End, Flat, Join, from, named_by, tasks_of_event}
 
 -- a mapped event that names one, with its task
 abbrev pub task_of : Description → Flat → MappedEvent → List ((ℕ × ℕ) × ℕ)

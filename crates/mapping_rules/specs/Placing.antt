@@ -1,17 +1,10 @@
 -- Mapped events with their positions and numbers.
 use Rattle.std.specs.Prelude.{ℕ, List, [], ◌∷◌, nat_eq, Option, option_map}
-use Rattle.std.specs.List.{flat_map}
-use Rattle.std.specs.Option.{option_map_or}
-use Rattle.description_types.specs.declared.description.Description.{Description}
-use Rattle.description_types.specs.declared.description.MappedEvent.{MappedEvent}
+use Rattle.bus_semantics.specs.Common.{flat_map, option_map_or}
+use Rattle.plan_definitions.specs.Common.{Description, MappedEvent, Flat, pair_number, events_of, named_by, in_order}
 use Rattle.description_types.specs.declared.description.Task as declared_task
-use Rattle.description_types.specs.declared.flat.Flat.{Flat}
 use Rattle.bus_semantics.specs.declared.script.Task.{Task}
-use Rattle.plan_definitions.specs.Keys.{pair_number}
-use Rattle.plan_definitions.specs.Parts.{events_of}
 use Rattle.mapping_rules.specs.Groups.{values_at}
-use Rattle.plan_definitions.specs.Mapped.{named_by}
-use Rattle.plan_definitions.specs.Sorting.{in_order}
 
 -- the position in the task, and the number of the event, if it names one
 abbrev pub placed_at : Description → Flat → MappedEvent → ℕ × Option ℕ

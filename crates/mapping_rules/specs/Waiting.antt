@@ -1,11 +1,7 @@
 -- Which task waits for which, looked for in lists.
 use Rattle.std.specs.Prelude.{ℕ, ◌+◌, List, [], ◌∷◌, Bool, false, ◌||◌, slice_get}
 use Rattle.std.specs.Option.{option_map_or}
-use Rattle.description_types.specs.declared.component.Component.{Component}
-use Rattle.description_types.specs.declared.description.Description.{Description}
-use Rattle.description_types.specs.declared.flat.Flat.{Flat}
-use Rattle.plan_definitions.specs.Keys.{same_pair}
-use Rattle.plan_definitions.specs.MappingRules.{tasks_from, waits_by}
+use Rattle.plan_definitions.specs.Common.{Component, Description, Flat, same_pair, tasks_from, waits_by}
 
 -- whether a member passes the test, each taken with its position, the first of which is i
 abbrev pub any_at : {X : Type 0} → (ℕ → X → Bool) → ℕ → List X → Bool

@@ -1,12 +1,10 @@
 //! The checks, and what they refuse.
 
 ghost use Rattle.std.specs.Prelude.{◌≡◌, IfOk, OnOk, Some, None, is_some};
-ghost use Rattle.plan_definitions.specs.Firsts.{first_of, unless};
+ghost use Rattle.plan_definitions.specs.Common.{first_of, unless, named_by, IsOfTasks, Tells, mapping_text, of_events, of_named, HaveOrder, TellsOrder};
 ghost use Rattle.mapping_rules.specs.InstanceRules.{number_of, of_rule, part_text};
-ghost use Rattle.plan_definitions.specs.Mapped.{named_by};
 ghost use Rattle.plan_definitions.specs.Telling.{Tells as Says};
-ghost use Rattle.plan_definitions.specs.MappingRefusals.{IsOfTasks, IsRefusal, Tells, mapping_text, of_events, of_named};
-ghost use Rattle.plan_definitions.specs.MappingRules.{HaveOrder, TellsOrder};
+ghost use Rattle.plan_definitions.specs.MappingRefusals.{IsRefusal};
 
 use crate::instances::{InstanceRule, Part, first_broken};
 use crate::kept::KeptMapping;

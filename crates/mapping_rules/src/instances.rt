@@ -1,14 +1,11 @@
 //! The rules on what instances have.
 
 ghost use Rattle.std.specs.Prelude.{◌≡◌, IfOk, Some, false, length, nat_eq, not, option_and_then, slice_get};
-ghost use Rattle.std.specs.List.{list_all};
-ghost use Rattle.std.specs.Option.{option_map_or};
-ghost use Rattle.plan_definitions.specs.Firsts.{first_of, unless};
-ghost use Rattle.plan_definitions.specs.Parts.{component_of};
+ghost use Rattle.bus_semantics.specs.Common.{list_all, option_map_or};
+ghost use Rattle.plan_definitions.specs.Common.{first_of, unless, component_of, mapped_as, are_same, badly_mapped_in, is_call, is_mapped_well, keeps_direct, may_be_direct, not_direct_in};
+ghost use Rattle.plan_definitions.specs.Common.{spread_in};
 ghost use Rattle.mapping_rules.specs.Groups.{values_at};
 ghost use Rattle.mapping_rules.specs.InstanceRules.{broken_in, first_broken};
-ghost use Rattle.plan_definitions.specs.Mapped.{mapped_as};
-ghost use Rattle.plan_definitions.specs.MappingRules.{are_same, badly_mapped_in, is_call, is_mapped_well, keeps_direct, may_be_direct, not_direct_in, spread_in};
 
 use crate::groups::Groups;
 use crate::servers::Servers;

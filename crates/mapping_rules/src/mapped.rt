@@ -2,11 +2,9 @@
 
 ghost use Rattle.std.specs.Prelude.{◌≡◌, ℕ, ◌++◌, IfOk, IsTrue, None, OnOk, map, nat_eq};
 ghost use Rattle.std.specs.List.{flat_map};
-ghost use Rattle.plan_definitions.specs.Lists.{from};
+ghost use Rattle.plan_definitions.specs.Common.{from, is_mapped, tasks_of_event, tasks_from, unnamed};
 ghost use Rattle.mapping_rules.specs.Groups.{values_at};
 ghost use Rattle.mapping_rules.specs.Listed.{task_of, tasks_at};
-ghost use Rattle.plan_definitions.specs.Mapped.{is_mapped};
-ghost use Rattle.plan_definitions.specs.MappingRules.{tasks_of_event, tasks_from, unnamed};
 
 use crate::groups::Groups;
 use crate::naming::Names;

@@ -1,8 +1,7 @@
 //! Instances and their events, by name.
 
 ghost use Rattle.std.specs.Prelude.{◌≡◌, IfOk, OnOk, map, option_copied, option_map, slice_get};
-ghost use Rattle.plan_definitions.specs.Parts.{component_of};
-ghost use Rattle.plan_definitions.specs.Mapped.{instance_named, event_named, named_by, event_names};
+ghost use Rattle.plan_definitions.specs.Common.{component_of, instance_named, event_named, named_by, event_names};
 ghost use Rattle.mapping_rules.specs.Naming.{names_of};
 
 use description_types::{Component, Description, Event, Flat, Instance, MappedEvent};

@@ -1,14 +1,9 @@
 //! Servers, and the tasks in which they run.
 
 ghost use Rattle.std.specs.Prelude.{◌≡◌, ◌==◌, ◌||◌, ℕ, [], ◌++◌, IfOk, IsTrue, OnOk, Some, is_some, length, map, option_and_then, option_copied, slice_get, true};
-ghost use Rattle.std.specs.List.{list_all, position_from};
-ghost use Rattle.std.specs.Option.{option_map_or};
-ghost use Rattle.description_types.specs.declared.component.Access.{Access};
-ghost use Rattle.plan_definitions.specs.Joined.{end_at, provider_of};
-ghost use Rattle.plan_definitions.specs.Lists.{from};
+ghost use Rattle.bus_semantics.specs.Common.{list_all, position_from, option_map_or};
+ghost use Rattle.plan_definitions.specs.Common.{Access, end_at, provider_of, from, invokes, invocation_of, serves_outside, task_of_server, tasks_behind, waits_by};
 ghost use Rattle.mapping_rules.specs.Listed.{invoked_at, invoked_in};
-ghost use Rattle.plan_definitions.specs.Mapped.{invokes, invocation_of};
-ghost use Rattle.plan_definitions.specs.MappingRules.{serves_outside, task_of_server, tasks_behind, waits_by};
 
 use crate::joined::{Outside, Providers};
 use crate::mapped::Mapped;

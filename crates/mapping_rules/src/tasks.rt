@@ -2,11 +2,8 @@
 
 ghost use Rattle.std.specs.Prelude.{◌≡◌, ◌<◌, ◌^◌, [], ◌∷◌, ◌++◌, IfOk, OnOk, length, map};
 ghost use Rattle.std.specs.List.{flat_map};
-ghost use Rattle.plan_definitions.specs.Lists.{from};
-ghost use Rattle.plan_definitions.specs.Parts.{events_of};
-ghost use Rattle.plan_definitions.specs.Mapped.{is_mapped};
+ghost use Rattle.plan_definitions.specs.Common.{from, events_of, is_mapped, are_mapped, mapping_of};
 ghost use Rattle.mapping_rules.specs.Placing.{in_task, numbers_of, placed_at, task_entry, task_with};
-ghost use Rattle.plan_definitions.specs.Tasks.{are_mapped, mapping_of};
 
 use crate::groups::Groups;
 use crate::kept::KeptMapping;

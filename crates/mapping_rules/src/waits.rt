@@ -1,13 +1,10 @@
 //! Which tasks wait for which.
 
 ghost use Rattle.std.specs.Prelude.{◌≡◌, ◌||◌, ℕ, IfOk, OnOk, Some, false, nat_eq, slice_get, true};
-ghost use Rattle.std.specs.List.{list_any};
-ghost use Rattle.std.specs.Option.{option_map_or};
+ghost use Rattle.bus_semantics.specs.Common.{list_any, option_map_or};
 ghost use Rattle.indexmap.specs.IndexSet.{contains};
-ghost use Rattle.plan_definitions.specs.Keys.{same_pair};
-ghost use Rattle.plan_definitions.specs.Parts.{component_of};
+ghost use Rattle.plan_definitions.specs.Common.{same_pair, component_of, are_same, waits_by};
 ghost use Rattle.mapping_rules.specs.Groups.{values_at};
-ghost use Rattle.plan_definitions.specs.MappingRules.{are_same, waits_by};
 ghost use Rattle.mapping_rules.specs.Waiting.{any_at, has_wait, leads, pairs, waits_in};
 
 use crate::groups::Groups;

@@ -7,10 +7,8 @@ use Rattle.std.proofs.lemmas.List.{get_or-set_other, get_or-set_same, length-set
 use Rattle.std.proofs.lemmas.Option.{slice_get-get_or, slice_get_past, slice_get_within}
 use Rattle.rte_value.specs.declared.kinds.Step.{Step}
 use Rattle.rte_value.specs.declared.kinds.Step.TheVariants as step
-use Rattle.mode_machine.specs.declared.owed.ModeEvent.{ModeEvent}
+use Rattle.mode_machine.specs.Common.{ModeEvent, IsNext, is_at, moment_of, occurs, same_moment, owes}
 use Rattle.mode_machine.specs.declared.owed.ModeEvent.TheVariants.{OnExit, OnTransition, OnEntry}
-use Rattle.mode_machine.specs.Chains.{IsNext, is_at, moment_of, occurs, same_moment}
-use Rattle.mode_machine.specs.Owed.{owes}
 use Rattle.mode_machine.proofs.Nexts.{begins_earlier}
 
 pub moment_is : (x y : ModeEvent) → same_moment x y ≡ true → x ≡ y

@@ -1,14 +1,12 @@
 -- What a phase, a start and an end make of the events that are tracked.
-use Rattle.std.proofs.Common.{◌≡◌, ◌<◌, ◌≤◌, ◌&&◌, ◌||◌, not, ℕ, refl, sym, ◌∙◌, ap, subst, arith, Bool, true, false, zero, suc, List, [], ◌∷◌, length, get_or, map, set, inl, inr, Option, Some, None, if◌then◌else◌}
+use Rattle.std.proofs.Common.{◌≡◌, ◌<◌, ◌≤◌, ◌&&◌, ◌||◌, not, ℕ, refl, sym, ◌∙◌, ap, subst, arith, Bool, true, false, zero, suc, List, [], ◌∷◌, length, get_or, map, set, inl, inr, Option}
+use Rattle.std.proofs.Common.{Some, None, if◌then◌else◌}
 use Rattle.std.proofs.lemmas.Bool.{and_parts, and_right, cases_eq, cases_lt, false≢true, or_cases}
 use Rattle.std.proofs.lemmas.List.{get_or-map, get_or-set_other, get_or-set_same, get_or_past, get_or_read, length-map, map-set, set-get_or}
 use Rattle.rte_value.specs.declared.kinds.Step.{Step}
-use Rattle.mode_machine.specs.Chains.{AreChains, IsNext, is_at, moment_of, occurs}
-use Rattle.mode_machine.specs.Owed.{after_end, after_owed_start, idle_event, is_woken, may_start, never_owed, owed_by, owes}
-use Rattle.mode_machine.specs.Tracked.{AreTracked, IsReady, IsTracked, Tracked, event_at, if_at, is_left, moment_in}
-use Rattle.mode_machine.specs.declared.chains.Chains.{Chains}
-use Rattle.mode_machine.specs.declared.owed.ModeEvent.{ModeEvent}
-use Rattle.mode_machine.specs.declared.owed.OwedEvent.{OwedEvent}
+use Rattle.mode_machine.specs.Common.{AreChains, IsNext, is_at, moment_of, occurs, after_end, after_owed_start, idle_event, is_woken, may_start, never_owed, owed_by, owes, AreTracked}
+use Rattle.mode_machine.specs.Common.{IsReady, Tracked, event_at, if_at, is_left, moment_in, Chains, ModeEvent, OwedEvent}
+use Rattle.mode_machine.specs.Tracked.{IsTracked}
 use Rattle.mode_machine.proofs.Each.{done_twice, map_after}
 use Rattle.mode_machine.proofs.Moments.{none_past, occurs_at, owes_at}
 use Rattle.mode_machine.proofs.Nexts.{begins_earlier, is_position, same_tests}

@@ -6,12 +6,7 @@ use Rattle.std.proofs.lemmas.Bool.{cases_order, false≢true}
 use Rattle.std.proofs.lemmas.List.{get_or-map, get_or_read, length-map}
 use Rattle.std.proofs.lemmas.Option.{none-some, same_Some}
 use Rattle.rte_value.specs.declared.kinds.Step.{Step}
-use Rattle.mode_machine.specs.Chains.{AreChains, IsNext, is_at, occurs}
-use Rattle.mode_machine.specs.Owed.{idle_event, owed_by}
-use Rattle.mode_machine.specs.Tracked.{event_at, if_at, is_left, moment_in}
-use Rattle.mode_machine.specs.declared.chains.Chains.{Chains}
-use Rattle.mode_machine.specs.declared.owed.ModeEvent.{ModeEvent}
-use Rattle.mode_machine.specs.declared.owed.OwedEvent.{OwedEvent}
+use Rattle.mode_machine.specs.Common.{AreChains, IsNext, is_at, occurs, idle_event, owed_by, event_at, if_at, is_left, moment_in, Chains, ModeEvent, OwedEvent}
 use Rattle.mode_machine.proofs.Each.{all_done, next_done, not_yet, skipped, so_far}
 use Rattle.mode_machine.proofs.Moments.{occurs_at, within_moments}
 use Rattle.mode_machine.proofs.Nexts.{end_of, passed}

@@ -3,3 +3,4 @@ pub mod Disabling
 pub mod Kept
 pub mod Owed
 pub mod Tracked
+pub mod Common

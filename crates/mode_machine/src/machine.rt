@@ -4,7 +4,9 @@ ghost use Rattle.std.specs.Prelude.{◌≡◌, ◌<◌, ◌≤◌, ◌+◌, ◌^
 ghost use Rattle.std.specs.List.{Contains};
 ghost use Rattle.std.specs.Vec.{vec_capacity};
 ghost use Rattle.mode_machine.specs.Disabling.{modes_in};
-ghost use Rattle.mode_machine.specs.Kept.{IsAcknowledged, IsStartable, is_disabled, is_phase, is_stable, next_after, unless_owed, unless_running, after_admit, after_advance, after_end_admitted, after_owed, after_step, after_switch, answer_to_admit, answer_to_advance, answer_to_switch, dependency_at, fresh, is_acked, mode_of, owed_at, with_acks};
+ghost use Rattle.mode_machine.specs.Kept.{IsAcknowledged, IsStartable, is_disabled, is_phase, is_stable, next_after, unless_owed, unless_running, after_admit, after_advance};
+ghost use Rattle.mode_machine.specs.Kept.{after_end_admitted, after_owed, after_step, after_switch, answer_to_admit, answer_to_advance, answer_to_switch, dependency_at, fresh, is_acked};
+ghost use Rattle.mode_machine.specs.Kept.{mode_of, owed_at, with_acks};
 ghost use Rattle.mode_machine.specs.Owed.{after_end, after_owed_start, may_start};
 
 use crate::Memory;

@@ -1,26 +1,11 @@
 -- An activation that was admitted and has not ended runs.
 use Rattle.std.proofs.Common.{◌≡◌, ℕ, Bool, true, false, not, refl, sym, ◌∙◌, ap, subst, List, [], ◌∷◌, ◌++◌, Option, Some, None}
-use Rattle.std.proofs.lemmas.Bool.{and_parts, false≢true}
+use Rattle.bus_semantics.specs.Common.{and_parts, false≢true, same_Some, ActKey, same_number, same_key-Decides, same_number-Decides, Plan, runnable_of_event, Wanted, to_admit, History}
+use Rattle.bus_semantics.specs.Common.{event_started, is_of, runs, last_started, started_before, noted, note, serves_directly, admitted_runs, IsLegal, MayFollow, Activation, with_deed}
+use Rattle.bus_semantics.specs.Common.{activation_of, is_held_back, starts_or_goes_on, plain_key, IsSound}
 use Rattle.std.specs.Prelude.{unwrap_or}
-use Rattle.std.proofs.lemmas.Option.{same_Some}
-use Rattle.rte_value.specs.declared.kinds.ActKey.{ActKey}
-use Rattle.rte_value.specs.Values.{same_number}
-use Rattle.rte_value.specs.EqualKeys.{same_key-Decides, same_number-Decides}
-use Rattle.bus_semantics.specs.declared.script.Mapping.{Mapping}
-use Rattle.bus_semantics.specs.declared.entries.Actor.{Actor}
-use Rattle.bus_semantics.specs.declared.entries.Actor.TheVariants.{Env, Machine, Act}
-use Rattle.bus_semantics.specs.declared.entries.Deed.{Deed}
+use Rattle.bus_laws.specs.Common.{Mapping, Actor, Env, Machine, Act, Deed, Entry}
 use Rattle.bus_semantics.specs.declared.entries.Deed.TheVariants as deed
-use Rattle.bus_semantics.specs.declared.entries.Entry.{Entry}
-use Rattle.bus_semantics.specs.Plan.{Plan, runnable_of_event}
-use Rattle.bus_semantics.specs.Wanted.{Wanted, to_admit}
-use Rattle.bus_semantics.specs.History.{History, event_started, is_of, runs, last_started, started_before, noted, note}
-use Rattle.bus_semantics.specs.Owners.{serves_directly}
-use Rattle.bus_semantics.specs.Admission.{admitted_runs}
-use Rattle.bus_semantics.specs.Legal.{IsLegal, MayFollow}
-use Rattle.bus_semantics.specs.Actor.{Activation, with_deed, activation_of, is_held_back, starts_or_goes_on}
-use Rattle.bus_semantics.specs.Rest.{plain_key}
-use Rattle.bus_semantics.specs.Sound.{IsSound}
 use Rattle.bus_laws.proofs.Thinning.{option_same}
 use Rattle.history_laws.specs.Followed.{AsksNext}
 use Rattle.history_laws.specs.Running.{GoesOn}

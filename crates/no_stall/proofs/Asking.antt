@@ -1,28 +1,11 @@
 -- What is so after an accepted ask of an activation: its point has a server, and the request is not taken while the activation waits.
 use Rattle.std.proofs.Common.{◌≡◌, ℕ, zero, ℤ, Bool, true, false, ◌&&◌, not, ◌==◌, refl, sym, ◌∙◌, ap, subst, List, [], ◌∷◌, length, nat_lt, Option, Some, None}
-use Rattle.std.specs.List.{slice_get}
-use Rattle.std.proofs.lemmas.Bool.{and_from, and_parts, or_left, or_right, eqb-true, eq-eqb, false≢true}
-use Rattle.std.proofs.lemmas.Option.{same_Some}
-use Rattle.rte_value.specs.declared.kinds.ActKey.{ActKey}
-use Rattle.rte_value.specs.declared.value.Value.{Value}
-use Rattle.rte_value.specs.Values.{words_of, same_number}
-use Rattle.rte_value.specs.EqualKeys.{same_key-Decides}
-use Rattle.bus_semantics.specs.declared.plan.PointPlan.{PointPlan}
-use Rattle.bus_semantics.specs.declared.script.Mapping.{Mapping}
-use Rattle.bus_semantics.specs.declared.entries.Actor.{Actor}
-use Rattle.bus_semantics.specs.declared.entries.Actor.TheVariants.{Env, Machine, Act}
-use Rattle.bus_semantics.specs.declared.entries.Deed.{Deed}
+use Rattle.bus_semantics.specs.Common.{slice_get, and_from, and_parts, or_left, or_right, eqb-true, eq-eqb, false≢true, same_Some, ActKey, Value, words_of, same_number, same_key-Decides}
+use Rattle.bus_semantics.specs.Common.{Plan, server_of, caller_of, instance_of, Wanted, to_ask, to_hear, to_take_result, same_wanted, History, is_of, runs, noted, serves_directly, key_fits}
+use Rattle.bus_semantics.specs.Common.{own_point, result_point, wish_fits, fits, is_request_at, takes_reply_at, is_outstanding, IsLegal, MayFollow, next_wish, accepted_point, asked_last}
+use Rattle.bus_semantics.specs.Common.{is_held_back, is_this, starts_or_goes_on, IsSound}
+use Rattle.bus_laws.specs.Common.{PointPlan, Mapping, Actor, Env, Machine, Act, Deed, Entry}
 use Rattle.bus_semantics.specs.declared.entries.Deed.TheVariants as deed
-use Rattle.bus_semantics.specs.declared.entries.Entry.{Entry}
-use Rattle.bus_semantics.specs.Plan.{Plan, server_of, caller_of, instance_of}
-use Rattle.bus_semantics.specs.Wanted.{Wanted, to_ask, to_hear, to_take_result, same_wanted}
-use Rattle.bus_semantics.specs.History.{History, is_of, runs, noted}
-use Rattle.bus_semantics.specs.Owners.{serves_directly, key_fits, own_point, result_point}
-use Rattle.bus_semantics.specs.Fitting.{wish_fits, fits}
-use Rattle.bus_semantics.specs.Calls.{is_request_at, takes_reply_at, is_outstanding}
-use Rattle.bus_semantics.specs.Legal.{IsLegal, MayFollow}
-use Rattle.bus_semantics.specs.Actor.{next_wish, accepted_point, asked_last, is_held_back, is_this, starts_or_goes_on}
-use Rattle.bus_semantics.specs.Sound.{IsSound}
 use Rattle.bus_laws.proofs.Thinning.{option_same}
 use Rattle.history_laws.specs.Followed.{IsActivation}
 use Rattle.history_laws.specs.Wishes.{is_of_a_call, is_awaited}

@@ -1,33 +1,15 @@
 -- Of what a running activation wants next an entry may follow, unless its area is held or its answer has not been returned.
 use Rattle.std.proofs.Common.{◌≡◌, ℕ, ℤ, Bool, true, false, ◌&&◌, not, ◌==◌, refl, sym, ◌∙◌, ap, subst, List, length, nat_le, Option, Some, None}
 use Rattle.std.specs.Prelude.{unwrap_or}
-use Rattle.std.specs.List.{slice_get}
-use Rattle.std.specs.Option.{option_map_or}
-use Rattle.std.proofs.lemmas.Bool.{and_from, and_parts, leb-true, false≢true}
-use Rattle.rte_value.specs.declared.kinds.ActKey.{ActKey}
-use Rattle.rte_value.specs.Values.{words_of, same_words, same_number}
-use Rattle.bus_semantics.specs.declared.plan.ModePortPlan.{ModePortPlan}
-use Rattle.bus_semantics.specs.declared.entries.Actor.TheVariants.{Act}
-use Rattle.bus_semantics.specs.declared.entries.Deed.{Deed}
+use Rattle.bus_semantics.specs.Common.{slice_get, option_map_or, and_from, and_parts, leb-true, false≢true, ActKey, words_of, same_words, same_number, Plan, instance_of, Wanted, to_tick}
+use Rattle.bus_semantics.specs.Common.{to_start, to_admit, to_fetch, to_write, to_read, to_invalidate, to_see_updated, to_send, to_receive, to_ask, to_hear, to_take_result, to_return}
+use Rattle.bus_semantics.specs.Common.{to_enter, to_leave, to_switch, to_see_mode, to_move_on, to_publish, to_fetch_all, to_publish_all, to_end, wanted_by, same_wanted, elems_of, History}
+use Rattle.bus_semantics.specs.Common.{event_started, last_started, noted, note, key_fits, modes_of, mode_port_fits, activation_may_want, wish_fits, answer_fits, fits, value_at, moment_of}
+use Rattle.bus_semantics.specs.Common.{read_code, is_updated, send_code, received_at, ask_code, answer_to, result_of, is_held, switch_code, mode_at_port, is_disabled, admission_allows}
+use Rattle.bus_semantics.specs.Common.{Answers, next_wish, is_held_back, is_this, starts_or_goes_on, is_start, try_of, IsStuck}
+use Rattle.bus_laws.specs.Common.{ModePortPlan, Act, Deed, Entry}
 use Rattle.bus_semantics.specs.declared.entries.Deed.TheVariants as deed
-use Rattle.bus_semantics.specs.declared.entries.Entry.{Entry}
-use Rattle.bus_semantics.specs.Plan.{Plan, instance_of}
 use Rattle.bus_semantics.proofs.SameWanted.{wish_itself}
-use Rattle.bus_semantics.specs.Wanted.{Wanted, to_tick, to_start, to_admit, to_fetch, to_write, to_read, to_invalidate, to_see_updated, to_send, to_receive, to_ask, to_hear, to_take_result, to_return, to_enter, to_leave, to_switch, to_see_mode, to_move_on, to_publish, to_fetch_all, to_publish_all, to_end, wanted_by, same_wanted}
-use Rattle.bus_semantics.specs.Lists.{elems_of}
-use Rattle.bus_semantics.specs.History.{History, event_started, last_started, noted, note}
-use Rattle.bus_semantics.specs.Owners.{key_fits, modes_of, mode_port_fits}
-use Rattle.bus_semantics.specs.Fitting.{activation_may_want, wish_fits, answer_fits, fits}
-use Rattle.bus_semantics.specs.Unqueued.{value_at, moment_of, read_code, is_updated}
-use Rattle.bus_semantics.specs.Queued.{send_code, received_at}
-use Rattle.bus_semantics.specs.Calls.{ask_code, answer_to, result_of}
-use Rattle.bus_semantics.specs.Areas.{is_held}
-use Rattle.bus_semantics.specs.Modes.{switch_code, mode_at_port}
-use Rattle.bus_semantics.specs.Admission.{is_disabled}
-use Rattle.bus_semantics.specs.Legal.{admission_allows, Answers}
-use Rattle.bus_semantics.specs.Actor.{next_wish, is_held_back, is_this, starts_or_goes_on}
-use Rattle.bus_semantics.specs.Asked.{is_start}
-use Rattle.bus_semantics.specs.Rest.{try_of, IsStuck}
 use Rattle.history_laws.specs.Given.{words_given}
 use Rattle.history_laws.proofs.Values.{Words, few_words, element_words, received_words, answer_words, result_words}
 use Rattle.bus_laws.proofs.Thinning.{same_list, same_flag, same_test}

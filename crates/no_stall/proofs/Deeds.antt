@@ -1,17 +1,8 @@
 -- The last deed of a running activation, and what stands open after it.
 use Rattle.std.proofs.Common.{◌≡◌, ℕ, zero, Bool, true, false, refl, sym, ◌∙◌, ap, List, [], ◌∷◌, ◌++◌, append_assoc, Option, Some, None}
-use Rattle.std.proofs.lemmas.Option.{same_Some}
-use Rattle.rte_value.specs.declared.kinds.ActKey.{ActKey}
-use Rattle.rte_value.specs.declared.value.Value.{Value}
-use Rattle.rte_value.specs.Values.{words_of}
-use Rattle.bus_semantics.specs.declared.script.Mapping.{Mapping}
-use Rattle.bus_semantics.specs.declared.entries.Deed.{Deed}
+use Rattle.bus_semantics.specs.Common.{same_Some, ActKey, Value, words_of, Plan, to_ask, History, is_of, Activation, with_deed, activation_of, accepted_point, last_deed, asked_last, IsSound}
+use Rattle.bus_laws.specs.Common.{Mapping, Deed}
 use Rattle.bus_semantics.specs.declared.entries.Deed.TheVariants as deed
-use Rattle.bus_semantics.specs.Plan.{Plan}
-use Rattle.bus_semantics.specs.Wanted.{to_ask}
-use Rattle.bus_semantics.specs.History.{History, is_of}
-use Rattle.bus_semantics.specs.Actor.{Activation, with_deed, activation_of, accepted_point, last_deed, asked_last}
-use Rattle.bus_semantics.specs.Sound.{IsSound}
 use Rattle.history_laws.specs.Followed.{Followed}
 use Rattle.history_laws.specs.OpenAreas.{open_areas}
 use Rattle.history_laws.specs.Following.{open_areas_more}

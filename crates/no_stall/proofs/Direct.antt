@@ -1,32 +1,13 @@
 -- The requests of a direct server: while a caller is held back, its activation runs or has still to start.
-use Rattle.std.proofs.Common.{◌≡◌, ℕ, zero, suc, ◌+◌, ◌<◌, ◌≤◌, Bool, true, false, ◌&&◌, ◌||◌, not, ◌==◌, if◌then◌else◌, refl, sym, ◌∙◌, ap, subst, arith, [], ◌∷◌, ◌++◌, length, length-append, nat_lt, is_some, Option, Some, None}
-use Rattle.std.specs.List.{slice_get}
-use Rattle.std.proofs.lemmas.Bool.{and_parts, or_parts, eqb-true, eq-eqb, ltb-true, lt-ltb, false≢true}
-use Rattle.std.proofs.lemmas.Option.{same_Some}
-use Rattle.rte_value.specs.declared.kinds.ActKey.{ActKey}
-use Rattle.rte_value.specs.declared.value.Value.{Value}
-use Rattle.rte_value.specs.Values.{words_of, same_number}
-use Rattle.rte_value.specs.EqualKeys.{same_key-Decides}
-use Rattle.bus_semantics.specs.declared.plan.ServerPlan.{ServerPlan}
-use Rattle.bus_semantics.specs.declared.plan.EventKind.{EventKind}
-use Rattle.bus_semantics.specs.declared.plan.EventKind.TheVariants.{Invoked}
-use Rattle.bus_semantics.specs.declared.script.Mapping.{Mapping}
-use Rattle.bus_semantics.specs.declared.entries.Actor.{Actor}
-use Rattle.bus_semantics.specs.declared.entries.Actor.TheVariants.{Env, Machine, Act}
-use Rattle.bus_semantics.specs.declared.entries.Deed.{Deed}
+use Rattle.std.proofs.Common.{◌≡◌, ℕ, zero, suc, ◌+◌, ◌<◌, ◌≤◌, Bool, true, false, ◌&&◌, ◌||◌, not, ◌==◌, if◌then◌else◌, refl, sym, ◌∙◌, ap, subst, arith, [], ◌∷◌, ◌++◌, length}
+use Rattle.std.proofs.Common.{length-append, nat_lt, is_some, Option, Some, None}
+use Rattle.bus_semantics.specs.Common.{slice_get, and_parts, or_parts, eqb-true, eq-eqb, ltb-true, lt-ltb, false≢true, same_Some, ActKey, Value, words_of, same_number, same_key-Decides}
+use Rattle.bus_semantics.specs.Common.{Plan, server_of, queue_of, kind_of, disabling_of, runnable_of_event, instance_of, Wanted, to_admit, same_wanted, History, Past, made_by, is_of, is_end}
+use Rattle.bus_semantics.specs.Common.{is_over, runs, last_started, noted, note, key_fits, event_fits, start_fits, requests_of, starts_of, is_start_of, has_unstarted, is_key_point}
+use Rattle.bus_semantics.specs.Common.{is_request, next_request, IsLegal, MayFollow, accepted_point, asked_last, ended_since, is_held_back, caller_has_asked, may_start, starts_or_goes_on}
+use Rattle.bus_semantics.specs.Common.{next_of_activity, may_be_disabled, IsSound}
+use Rattle.bus_laws.specs.Common.{ServerPlan, EventKind, Invoked, Mapping, Actor, Env, Machine, Act, Deed, Entry}
 use Rattle.bus_semantics.specs.declared.entries.Deed.TheVariants as deed
-use Rattle.bus_semantics.specs.declared.entries.Entry.{Entry}
-use Rattle.bus_semantics.specs.Plan.{Plan, server_of, queue_of, kind_of, disabling_of, runnable_of_event, instance_of}
-use Rattle.bus_semantics.specs.Wanted.{Wanted, to_admit, same_wanted}
-use Rattle.bus_semantics.specs.History.{History, Past, made_by, is_of, is_end, is_over, runs, last_started, noted, note}
-use Rattle.bus_semantics.specs.Owners.{key_fits, event_fits}
-use Rattle.bus_semantics.specs.Fitting.{start_fits}
-use Rattle.bus_semantics.specs.Calls.{requests_of, starts_of, is_start_of, has_unstarted, is_key_point, is_request, next_request}
-use Rattle.bus_semantics.specs.Legal.{IsLegal, MayFollow}
-use Rattle.bus_semantics.specs.Actor.{accepted_point, asked_last, ended_since, is_held_back, caller_has_asked, may_start, starts_or_goes_on}
-use Rattle.bus_semantics.specs.Activations.{next_of_activity}
-use Rattle.bus_semantics.specs.SoundEvents.{may_be_disabled}
-use Rattle.bus_semantics.specs.Sound.{IsSound}
 use Rattle.bus_laws.proofs.Thinning.{noting, option_same}
 use Rattle.bus_laws.proofs.OneEvent.{invoked_serves, serves_invoked}
 use Rattle.history_laws.proofs.EventFacts.{undisabled}

@@ -1,25 +1,10 @@
 -- What a phase owes is started, or due; and once started it is done, or runs.
 use Rattle.std.proofs.Common.{◌≡◌, ℕ, ◌⊎◌, inl, inr, Bool, true, false, ◌&&◌, ◌==◌, if◌then◌else◌, refl, sym, ◌∙◌, ap, subst, [], ◌∷◌, Option, Some, None}
-use Rattle.std.proofs.lemmas.Bool.{eqb-true, false≢true}
-use Rattle.rte_value.specs.declared.kinds.ActKey.{ActKey}
-use Rattle.rte_value.specs.declared.kinds.Step.{Step}
-use Rattle.rte_value.specs.EqualKeys.{same_key-Decides, same_number-Decides}
-use Rattle.bus_semantics.specs.declared.plan.Moment.{Moment}
-use Rattle.bus_semantics.specs.declared.script.Mapping.{Mapping}
-use Rattle.bus_semantics.specs.declared.entries.Actor.{Actor}
-use Rattle.bus_semantics.specs.declared.entries.Actor.TheVariants.{Env, Machine, Act}
-use Rattle.bus_semantics.specs.declared.entries.Deed.{Deed}
+use Rattle.bus_semantics.specs.Common.{eqb-true, false≢true, ActKey, Step, same_key-Decides, same_number-Decides, Plan, disabling_of, runnable_of_event, History, Past, is_of, runs}
+use Rattle.bus_semantics.specs.Common.{last_started, noted, note, serves_directly, phase_of, is_phase, owes_moment, is_start_by, is_end_by, started_in_phase, is_done, follows_last}
+use Rattle.bus_semantics.specs.Common.{phase_owes, never_started, IsLegal, MayFollow, plain_key, IsSound}
+use Rattle.bus_laws.specs.Common.{Moment, Mapping, Actor, Env, Machine, Act, Deed, Entry}
 use Rattle.bus_semantics.specs.declared.entries.Deed.TheVariants as deed
-use Rattle.bus_semantics.specs.declared.entries.Entry.{Entry}
-use Rattle.bus_semantics.specs.Plan.{Plan, disabling_of, runnable_of_event}
-use Rattle.bus_semantics.specs.History.{History, Past, is_of, runs, last_started, noted, note}
-use Rattle.bus_semantics.specs.Owners.{serves_directly}
-use Rattle.bus_semantics.specs.Modes.{phase_of, is_phase}
-use Rattle.bus_semantics.specs.Owed.{owes_moment, is_start_by, is_end_by, started_in_phase, is_done}
-use Rattle.bus_semantics.specs.Due.{follows_last, phase_owes, never_started}
-use Rattle.bus_semantics.specs.Legal.{IsLegal, MayFollow}
-use Rattle.bus_semantics.specs.Rest.{plain_key}
-use Rattle.bus_semantics.specs.Sound.{IsSound}
 use Rattle.bus_laws.proofs.Thinning.{noting}
 use Rattle.no_stall.proofs.Premises.{Laws}
 use Rattle.no_stall.proofs.Direct.{unadmitted}

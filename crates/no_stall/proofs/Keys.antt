@@ -1,24 +1,9 @@
 -- Keys of a sound plan, its servers with their events, and the direct activations of points.
 use Rattle.std.proofs.Common.{◌≡◌, ℕ, ◌<◌, inl, true, false, ◌&&◌, not, ◌==◌, refl, sym, ◌∙◌, ap, subst, arith, length, nat_lt, nat_le, is_none, Option, Some, None}
-use Rattle.std.specs.List.{slice_get}
-use Rattle.std.specs.Option.{option_map_or}
-use Rattle.std.proofs.lemmas.Bool.{and_from, and_parts, eqb-true, ltb-true, lt-ltb, false≢true, not-true}
-use Rattle.std.proofs.lemmas.Option.{slice_get_within, same_Some}
-use Rattle.rte_value.specs.declared.kinds.ActKey.{ActKey}
-use Rattle.rte_value.specs.Values.{same_number}
-use Rattle.bus_semantics.specs.declared.plan.PointPlan.{PointPlan}
-use Rattle.bus_semantics.specs.declared.plan.ServerPlan.{ServerPlan}
-use Rattle.bus_semantics.specs.declared.plan.EventPlan.{EventPlan}
-use Rattle.bus_semantics.specs.declared.plan.EventKind.{EventKind}
-use Rattle.bus_semantics.specs.declared.plan.EventKind.TheVariants.{Invoked}
-use Rattle.bus_semantics.specs.declared.script.Mapping.{Mapping}
-use Rattle.bus_semantics.specs.Plan.{Plan, Runnable, every_from, positions, server_of, queue_of, kind_of, runnable_of_event, instance_of}
-use Rattle.bus_semantics.specs.Owners.{serves_directly, key_fits}
-use Rattle.bus_semantics.specs.Actor.{direct_key}
-use Rattle.bus_semantics.specs.Rest.{plain_key, plain_keys, direct_keys, keys_of, option_list}
-use Rattle.bus_semantics.specs.SoundElements.{server_sound}
-use Rattle.bus_semantics.specs.SoundEvents.{kind_sound, event_sound, server_served, serves_back}
-use Rattle.bus_semantics.specs.Sound.{IsSound}
+use Rattle.bus_semantics.specs.Common.{slice_get, option_map_or, and_from, and_parts, eqb-true, ltb-true, lt-ltb, false≢true, not-true, slice_get_within, same_Some, ActKey, same_number}
+use Rattle.bus_semantics.specs.Common.{Plan, Runnable, every_from, positions, server_of, queue_of, kind_of, runnable_of_event, instance_of, serves_directly, key_fits, direct_key, plain_key}
+use Rattle.bus_semantics.specs.Common.{plain_keys, direct_keys, keys_of, option_list, server_sound, kind_sound, event_sound, server_served, serves_back, IsSound}
+use Rattle.bus_laws.specs.Common.{PointPlan, ServerPlan, EventPlan, EventKind, Invoked, Mapping}
 use Rattle.bus_laws.proofs.Thinning.{every_at, option_same, option_test, found_where, sought_where}
 use Rattle.bus_laws.proofs.OneEvent.{server_of_runnable, kind_at, serves_invoked, server_at}
 use Rattle.no_stall.proofs.Lists.{Among, among_left, among_right, among_gathered, among_map, among_positions}

@@ -1,10 +1,6 @@
 -- What stands in a list: in its parts, at a place, and where tests hold.
 use Rattle.std.proofs.Common.{◌≡◌, ℕ, zero, suc, ◌+◌, ◌<◌, ◌⊎◌, inl, inr, Bool, true, false, ◌||◌, ◌==◌, if◌then◌else◌, refl, sym, ◌∙◌, ap, subst, arith, List, [], ◌∷◌, ◌++◌, map, Some}
-use Rattle.std.specs.List.{list_all, list_any, slice_get}
-use Rattle.std.proofs.lemmas.Bool.{and_from, and_parts, or_left, or_right, eqb-true, eq-eqb, false≢true}
-use Rattle.bus_semantics.specs.Plan.{every_from, positions}
-use Rattle.bus_semantics.specs.History.{count}
-use Rattle.bus_semantics.specs.Rest.{gathered}
+use Rattle.bus_semantics.specs.Common.{list_all, list_any, slice_get, and_from, and_parts, or_left, or_right, eqb-true, eq-eqb, false≢true, every_from, positions, count, gathered}
 
 -- x is an item of the list
 abbrev pub Among : {X : Type 0} → X → List X → Type 0

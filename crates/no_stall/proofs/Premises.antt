@@ -1,21 +1,8 @@
 -- What no stall rests on: what activations ask, and what legal histories keep.
 use Rattle.std.proofs.Common.{◌≡◌, ℕ, ℤ, ◌==◌, true, false, List, [], length, Some, is_some, nat_lt, nat_le, slice_get}
-use Rattle.std.specs.List.{list_all}
-use Rattle.rte_value.specs.declared.kinds.ActKey.{ActKey}
-use Rattle.bus_semantics.specs.declared.plan.ServerPlan.{ServerPlan}
-use Rattle.bus_semantics.specs.declared.script.Mapping.{Mapping}
-use Rattle.bus_semantics.specs.declared.entries.Deed.{Deed}
-use Rattle.bus_semantics.specs.Plan.{Plan, Runnable, server_of, disabling_of}
-use Rattle.bus_semantics.specs.Wanted.{Wanted, to_admit, to_hear, to_enter, to_end}
-use Rattle.bus_semantics.specs.Asked.{is_start}
-use Rattle.bus_semantics.specs.History.{History, noted, runs}
-use Rattle.bus_semantics.specs.Actor.{direct_key, caller_has_asked}
-use Rattle.bus_semantics.specs.Rest.{plain_key}
-use Rattle.bus_semantics.specs.Areas.{is_held}
-use Rattle.bus_semantics.specs.Calls.{has_unstarted}
-use Rattle.bus_semantics.specs.Owners.{serves_directly}
-use Rattle.bus_semantics.specs.Activations.{next_of_activity}
-use Rattle.bus_semantics.specs.Legal.{IsLegal}
+use Rattle.bus_semantics.specs.Common.{list_all, ActKey, Plan, Runnable, server_of, disabling_of, Wanted, to_admit, to_hear, to_enter, to_end, is_start, History, noted, runs, direct_key}
+use Rattle.bus_semantics.specs.Common.{caller_has_asked, plain_key, is_held, has_unstarted, serves_directly, next_of_activity, IsLegal}
+use Rattle.bus_laws.specs.Common.{ServerPlan, Mapping, Deed}
 use Rattle.history_laws.specs.Followed.{IsActivation, AsksNext, HasJustAsked}
 use Rattle.history_laws.specs.OpenAreas.{open_areas, comes_outside}
 use Rattle.history_laws.specs.Given.{words_given}

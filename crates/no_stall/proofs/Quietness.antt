@@ -1,39 +1,13 @@
 -- At rest, when no activation runs, no event is due, and each machine is stable and has begun every accepted switch.
 use Rattle.std.proofs.Common.{◌≡◌, ℕ, ◌<◌, ◌≤◌, ◌⊎◌, inl, inr, Bool, true, false, ◌&&◌, ◌||◌, not, ◌==◌, refl, sym, ◌∙◌, ap, subst, arith, [], length, nat_lt, nat_le, Option, Some, None}
-use Rattle.std.specs.List.{list_any, slice_get}
-use Rattle.std.specs.Option.{option_map_or}
-use Rattle.std.proofs.lemmas.Bool.{and_parts, or_right, or_parts, eqb-true, ltb-false, false≢true, false_from_ne_true}
-use Rattle.rte_value.specs.declared.kinds.ActKey.{ActKey}
-use Rattle.rte_value.specs.declared.kinds.Step.{Step}
+use Rattle.bus_semantics.specs.Common.{list_any, slice_get, option_map_or, and_parts, or_right, or_parts, eqb-true, ltb-false, false≢true, false_from_ne_true, ActKey, Step, same_number}
+use Rattle.bus_semantics.specs.Common.{empty_value, Plan, every_from, server_of, queue_of, caller_of, kind_of, disabling_of, runnable_of_event, instance_of, History, runs, noted}
+use Rattle.bus_semantics.specs.Common.{serves_directly, start_fits, to_start, requests_of, starts_of, has_unstarted, stage_of, next_of, waits_of, admitted_runs, mode_disables}
+use Rattle.bus_semantics.specs.Common.{none_runs_disabled, owes, owes_moment, is_start_by, started_in_phase, is_done, all_done, first_unbegun, phase_after, is_due, follows_last, phase_owes}
+use Rattle.bus_semantics.specs.Common.{never_started, IsLegal, direct_key, caller_has_asked, plain_key, keys_of, event_runs, is_free, IsStuck, IsAtRest, machine_is_quiet, IsQuiet}
+use Rattle.bus_semantics.specs.Common.{kind_sound, disabling_sound, may_be_disabled, event_sound, times_mapped, IsSound}
 use Rattle.rte_value.specs.declared.kinds.Step.TheVariants as step
-use Rattle.rte_value.specs.Values.{same_number}
-use Rattle.rte_value.specs.ShortValues.{empty_value}
-use Rattle.bus_semantics.specs.declared.plan.ServerPlan.{ServerPlan}
-use Rattle.bus_semantics.specs.declared.plan.EventPlan.{EventPlan}
-use Rattle.bus_semantics.specs.declared.plan.EventKind.{EventKind}
-use Rattle.bus_semantics.specs.declared.plan.EventKind.TheVariants.{Invoked, ModeSwitch}
-use Rattle.bus_semantics.specs.declared.plan.Moment.{Moment}
-use Rattle.bus_semantics.specs.declared.plan.Disabling.{Disabling}
-use Rattle.bus_semantics.specs.declared.script.Mapping.{Mapping}
-use Rattle.bus_semantics.specs.declared.script.Task.{Task}
-use Rattle.bus_semantics.specs.declared.entries.Actor.TheVariants.{Machine, Act}
-use Rattle.bus_semantics.specs.Plan.{Plan, every_from, server_of, queue_of, caller_of, kind_of, disabling_of, runnable_of_event, instance_of}
-use Rattle.bus_semantics.specs.History.{History, runs, noted}
-use Rattle.bus_semantics.specs.Owners.{serves_directly}
-use Rattle.bus_semantics.specs.Fitting.{start_fits}
-use Rattle.bus_semantics.specs.Wanted.{to_start}
-use Rattle.bus_semantics.specs.Calls.{requests_of, starts_of, has_unstarted}
-use Rattle.bus_semantics.specs.Modes.{stage_of, next_of, waits_of}
-use Rattle.bus_semantics.specs.Admission.{admitted_runs, mode_disables, none_runs_disabled}
-use Rattle.bus_semantics.specs.Owed.{owes, owes_moment, is_start_by, started_in_phase, is_done, all_done}
-use Rattle.bus_semantics.specs.Phases.{first_unbegun, phase_after}
-use Rattle.bus_semantics.specs.Due.{is_due, follows_last, phase_owes, never_started}
-use Rattle.bus_semantics.specs.Legal.{IsLegal}
-use Rattle.bus_semantics.specs.Actor.{direct_key, caller_has_asked}
-use Rattle.bus_semantics.specs.Rest.{plain_key, keys_of, event_runs, is_free, IsStuck, IsAtRest}
-use Rattle.bus_semantics.specs.Quiet.{machine_is_quiet, IsQuiet}
-use Rattle.bus_semantics.specs.SoundEvents.{kind_sound, disabling_sound, may_be_disabled, event_sound}
-use Rattle.bus_semantics.specs.Sound.{times_mapped, IsSound}
+use Rattle.bus_laws.specs.Common.{ServerPlan, EventPlan, EventKind, Invoked, ModeSwitch, Moment, Disabling, Mapping, Task, Machine, Act}
 use Rattle.bus_laws.proofs.Thinning.{every_at, Found, found_where, option_test}
 use Rattle.bus_laws.proofs.Local.{proper_legal}
 use Rattle.bus_laws.proofs.OneEvent.{server_of_runnable, kind_at, serves_invoked}

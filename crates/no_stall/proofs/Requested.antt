@@ -1,22 +1,9 @@
 -- A server's start that is due, of a key that does not run, may follow.
 use Rattle.std.proofs.Common.{◌≡◌, ℕ, ℤ, Bool, true, false, ◌==◌, refl, sym, ◌∙◌, ap, subst, List, is_none, Some, None}
-use Rattle.std.specs.List.{slice_get}
-use Rattle.std.proofs.lemmas.Bool.{and_from, eqb-true, eq-eqb}
-use Rattle.rte_value.specs.declared.kinds.ActKey.{ActKey}
-use Rattle.rte_value.specs.Values.{words_of, same_words, same_number}
-use Rattle.bus_semantics.specs.declared.plan.ServerPlan.{ServerPlan}
-use Rattle.bus_semantics.specs.declared.script.Mapping.{Mapping}
-use Rattle.bus_semantics.specs.declared.entries.Actor.TheVariants.{Act}
-use Rattle.bus_semantics.specs.Plan.{Plan, server_of, queue_of, kind_of}
-use Rattle.bus_semantics.specs.Wanted.{to_start}
-use Rattle.bus_semantics.specs.History.{History, runs, noted}
-use Rattle.bus_semantics.specs.Owners.{key_fits}
-use Rattle.bus_semantics.specs.Fitting.{start_fits}
-use Rattle.bus_semantics.specs.Calls.{counts_with, requests_of, starts_of, next_request, is_request, starts_request, has_unstarted}
-use Rattle.bus_semantics.specs.Due.{is_due}
-use Rattle.bus_semantics.specs.Actor.{caller_has_asked}
-use Rattle.bus_semantics.specs.Rest.{plain_key, IsStuck}
-use Rattle.bus_semantics.specs.Sound.{IsSound}
+use Rattle.bus_semantics.specs.Common.{slice_get, and_from, eqb-true, eq-eqb, ActKey, words_of, same_words, same_number, Plan, server_of, queue_of, kind_of, to_start, History, runs, noted}
+use Rattle.bus_semantics.specs.Common.{key_fits, start_fits, counts_with, requests_of, starts_of, next_request, is_request, starts_request, has_unstarted, is_due, caller_has_asked}
+use Rattle.bus_semantics.specs.Common.{plain_key, IsStuck, IsSound}
+use Rattle.bus_laws.specs.Common.{ServerPlan, Mapping, Act}
 use Rattle.bus_laws.proofs.Thinning.{option_same, option_test, same_list}
 use Rattle.history_laws.proofs.Requests.{Made, request_made, Unstarted, unstarted}
 use Rattle.no_stall.proofs.Keys.{Served, served, queue_at, directly, plain_fits, IsDirect, direct_fits}

@@ -1,11 +1,6 @@
 -- A legal history of a sound plan that is at rest is quiet.
 use Rattle.bus_semantics.specs.declared.script.Mapping.{Mapping}
-use Rattle.bus_semantics.specs.Plan.{Plan}
-use Rattle.bus_semantics.specs.History.{History}
-use Rattle.bus_semantics.specs.Legal.{IsLegal}
-use Rattle.bus_semantics.specs.Rest.{IsAtRest}
-use Rattle.bus_semantics.specs.Quiet.{IsQuiet}
-use Rattle.bus_semantics.specs.Sound.{IsSound}
+use Rattle.bus_semantics.specs.Common.{Plan, History, IsLegal, IsAtRest, IsQuiet, IsSound}
 use Rattle.no_stall.proofs.Premises.{Laws}
 use Rattle.no_stall.proofs.Waiting as waiting
 use Rattle.no_stall.proofs.Quietness as quietness

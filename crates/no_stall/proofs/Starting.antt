@@ -1,26 +1,10 @@
 -- A start that is due, of a key that does not run, may follow; so may a phase.
 use Rattle.std.proofs.Common.{◌≡◌, ℕ, ◌<◌, Bool, true, false, ◌&&◌, not, if◌then◌else◌, refl, sym, ap, [], ◌∷◌, length, nat_lt, Option, Some, None}
-use Rattle.std.proofs.lemmas.Bool.{and_from, lt-ltb, false≢true}
-use Rattle.std.proofs.lemmas.Option.{slice_get_within}
-use Rattle.rte_value.specs.declared.kinds.ActKey.{ActKey}
-use Rattle.rte_value.specs.declared.kinds.Step.{Step}
-use Rattle.rte_value.specs.declared.value.Value.{Value}
-use Rattle.rte_value.specs.Values.{words_of, same_number}
-use Rattle.bus_semantics.specs.declared.plan.EventPlan.{EventPlan}
-use Rattle.bus_semantics.specs.declared.entries.Actor.TheVariants.{Machine, Act}
-use Rattle.bus_semantics.specs.declared.entries.Deed.{Deed}
+use Rattle.bus_semantics.specs.Common.{and_from, lt-ltb, false≢true, slice_get_within, ActKey, Step, Value, words_of, same_number, Plan, kind_of, runnable_of_event, instance_of, to_start}
+use Rattle.bus_semantics.specs.Common.{to_move_on, History, is_of, is_over, runs, noted, key_fits, event_fits, start_fits, phase_fits, starts_request, stage_of, phase_after, is_due}
+use Rattle.bus_semantics.specs.Common.{accepted_point, asked_last, is_held_back, caller_has_asked, may_start, IsStuck}
+use Rattle.bus_laws.specs.Common.{EventPlan, Machine, Act, Deed}
 use Rattle.bus_semantics.specs.declared.entries.Deed.TheVariants as deed
-use Rattle.bus_semantics.specs.Plan.{Plan, kind_of, runnable_of_event, instance_of}
-use Rattle.bus_semantics.specs.Wanted.{to_start, to_move_on}
-use Rattle.bus_semantics.specs.History.{History, is_of, is_over, runs, noted}
-use Rattle.bus_semantics.specs.Owners.{key_fits, event_fits}
-use Rattle.bus_semantics.specs.Fitting.{start_fits, phase_fits}
-use Rattle.bus_semantics.specs.Calls.{starts_request}
-use Rattle.bus_semantics.specs.Modes.{stage_of}
-use Rattle.bus_semantics.specs.Phases.{phase_after}
-use Rattle.bus_semantics.specs.Due.{is_due}
-use Rattle.bus_semantics.specs.Actor.{accepted_point, asked_last, is_held_back, caller_has_asked, may_start}
-use Rattle.bus_semantics.specs.Rest.{IsStuck}
 use Rattle.bus_laws.proofs.Thinning.{option_test, sought_where}
 
 over_accepts : (d : Deed) → is_over d ≡ true → accepted_point d ≡ None

@@ -1,25 +1,10 @@
 -- The one activation of an event that is no server's, one entry further.
 use Rattle.std.proofs.Common.{◌≡◌, ℕ, Bool, true, false, ◌&&◌, not, refl, sym, ◌∙◌, ap, subst, ◌∷◌, length, nat_lt, Option, Some, None}
-use Rattle.std.proofs.lemmas.Bool.{and_parts, false≢true}
-use Rattle.std.proofs.lemmas.Option.{same_Some}
-use Rattle.rte_value.specs.declared.kinds.ActKey.{ActKey}
-use Rattle.rte_value.specs.declared.value.Value.{Value}
-use Rattle.rte_value.specs.Values.{words_of, same_number}
-use Rattle.rte_value.specs.EqualKeys.{same_key-Decides}
-use Rattle.bus_semantics.specs.declared.script.Mapping.{Mapping}
-use Rattle.bus_semantics.specs.declared.entries.Actor.{Actor}
-use Rattle.bus_semantics.specs.declared.entries.Actor.TheVariants.{Env, Machine, Act}
-use Rattle.bus_semantics.specs.declared.entries.Deed.{Deed}
+use Rattle.bus_semantics.specs.Common.{and_parts, false≢true, same_Some, ActKey, Value, words_of, same_number, same_key-Decides, Plan, kind_of, runnable_of_event, instance_of, History}
+use Rattle.bus_semantics.specs.Common.{event_started, is_of, is_over, runs, last_started, note, serves_directly, key_fits, event_fits, start_fits, MayFollow, may_start, caller_has_asked}
+use Rattle.bus_semantics.specs.Common.{is_held_back, plain_key, IsSound}
+use Rattle.bus_laws.specs.Common.{Mapping, Actor, Env, Machine, Act, Deed, Entry}
 use Rattle.bus_semantics.specs.declared.entries.Deed.TheVariants as deed
-use Rattle.bus_semantics.specs.declared.entries.Entry.{Entry}
-use Rattle.bus_semantics.specs.Plan.{Plan, kind_of, runnable_of_event, instance_of}
-use Rattle.bus_semantics.specs.History.{History, event_started, is_of, is_over, runs, last_started, note}
-use Rattle.bus_semantics.specs.Owners.{serves_directly, key_fits, event_fits}
-use Rattle.bus_semantics.specs.Fitting.{start_fits}
-use Rattle.bus_semantics.specs.Legal.{MayFollow}
-use Rattle.bus_semantics.specs.Actor.{may_start, caller_has_asked, is_held_back}
-use Rattle.bus_semantics.specs.Rest.{plain_key}
-use Rattle.bus_semantics.specs.Sound.{IsSound}
 use Rattle.bus_laws.proofs.Thinning.{option_same}
 use Rattle.no_stall.proofs.Keys.{is_direct, Shape, plain, direct, shape}
 

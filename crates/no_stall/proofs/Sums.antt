@@ -1,15 +1,11 @@
 -- Where the points of a server have a request that has not started, one of them has.
-use Rattle.std.proofs.Common.{◌≡◌, ℕ, zero, suc, ◌+◌, ◌<◌, ◌≤◌, ℤ, Bool, true, false, ◌&&◌, ◌==◌, if◌then◌else◌, refl, sym, ◌∙◌, subst, arith, List, [], ◌∷◌, ◌++◌, length, length-append, nat_lt, Option, Some, None}
-use Rattle.std.proofs.lemmas.Bool.{eqb-true, eq-eqb, ltb-true, ltb-false, lt-ltb, le-ltb, false≢true}
-use Rattle.std.proofs.lemmas.Option.{slice_get_within}
-use Rattle.rte_value.specs.Values.{words_of, same_number}
-use Rattle.bus_semantics.specs.declared.plan.PointPlan.{PointPlan}
-use Rattle.bus_semantics.specs.declared.entries.Actor.{Actor}
-use Rattle.bus_semantics.specs.declared.entries.Deed.{Deed}
+use Rattle.std.proofs.Common.{◌≡◌, ℕ, zero, suc, ◌+◌, ◌<◌, ◌≤◌, ℤ, Bool, true, false, ◌&&◌, ◌==◌, if◌then◌else◌, refl, sym, ◌∙◌, subst, arith, List, [], ◌∷◌, ◌++◌, length, length-append}
+use Rattle.std.proofs.Common.{nat_lt, Option, Some, None}
+use Rattle.bus_semantics.specs.Common.{eqb-true, eq-eqb, ltb-true, ltb-false, lt-ltb, false≢true, slice_get_within, words_of, same_number, Plan, server_of, Past, requests_of, starts_of}
+use Rattle.bus_semantics.specs.Common.{has_unstarted}
+use Rattle.std.proofs.lemmas.Bool.{le-ltb}
+use Rattle.bus_laws.specs.Common.{PointPlan, Actor, Deed}
 use Rattle.bus_semantics.specs.declared.entries.Deed.TheVariants as deed
-use Rattle.bus_semantics.specs.Plan.{Plan, server_of}
-use Rattle.bus_semantics.specs.History.{Past}
-use Rattle.bus_semantics.specs.Calls.{requests_of, starts_of, has_unstarted}
 use Rattle.bus_laws.proofs.Thinning.{noting, option_same, sought_where}
 
 abbrev bit : Bool → ℕ

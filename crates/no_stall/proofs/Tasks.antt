@@ -1,20 +1,8 @@
 -- In which task an event is, and where a runnable of one task waits for a server of another.
 use Rattle.std.proofs.Common.{◌≡◌, ℕ, ◌+◌, inl, Bool, true, false, ◌&&◌, ◌||◌, not, ◌==◌, if◌then◌else◌, refl, ◌∙◌, subst, arith, List, [], ◌∷◌, length, nat_lt, nat_le, Option, Some, None}
-use Rattle.std.specs.List.{list_all, list_any, slice_get}
-use Rattle.std.proofs.lemmas.Bool.{and_from, and_parts, eqb-true, eq-eqb, false≢true}
-use Rattle.std.proofs.lemmas.Option.{slice_get_within}
-use Rattle.rte_value.specs.Values.{same_number}
-use Rattle.bus_semantics.specs.declared.plan.PointPlan.{PointPlan}
-use Rattle.bus_semantics.specs.declared.plan.ServerPlan.{ServerPlan}
-use Rattle.bus_semantics.specs.declared.plan.EventPlan.{EventPlan}
-use Rattle.bus_semantics.specs.declared.script.Mapping.{Mapping}
-use Rattle.bus_semantics.specs.declared.script.Task.{Task}
-use Rattle.bus_semantics.specs.Plan.{Plan, look, every_from, positions, server_of, caller_of, runnable_of_event}
-use Rattle.bus_semantics.specs.History.{count}
-use Rattle.bus_semantics.specs.SoundPlan.{is_in, same_numbers}
-use Rattle.bus_semantics.specs.SoundElements.{limits_fit}
-use Rattle.bus_semantics.specs.SoundNames.{is_name}
-use Rattle.bus_semantics.specs.Sound.{mapped_events, times_mapped, tasks_of, waits_for, IsSound}
+use Rattle.bus_semantics.specs.Common.{list_all, list_any, slice_get, and_from, and_parts, eqb-true, eq-eqb, false≢true, slice_get_within, same_number, Plan, look, every_from, positions}
+use Rattle.bus_semantics.specs.Common.{server_of, caller_of, runnable_of_event, count, is_in, same_numbers, limits_fit, is_name, mapped_events, times_mapped, tasks_of, waits_for, IsSound}
+use Rattle.bus_laws.specs.Common.{PointPlan, ServerPlan, EventPlan, Mapping, Task}
 use Rattle.bus_laws.proofs.Thinning.{every_at, option_test, found_where, sought_where}
 use Rattle.history_laws.specs.Wishes.{is_awaited}
 use Rattle.no_stall.proofs.Lists.{Among, among_gathered, among_positions, among_at, any_from, all_at, counted, gathered_from, place_of}

@@ -1,17 +1,9 @@
 -- What is tried at rest, one kind after the other.
 use Rattle.std.proofs.Common.{◌≡◌, ℕ, ◌<◌, inl, inr, true, refl, sym, subst, List, [], ◌∷◌, ◌++◌, length, Option, Some}
-use Rattle.std.specs.List.{slice_get}
-use Rattle.rte_value.specs.declared.kinds.ActKey.{ActKey}
-use Rattle.rte_value.specs.Values.{same_number}
-use Rattle.bus_semantics.specs.declared.plan.ServerPlan.{ServerPlan}
-use Rattle.bus_semantics.specs.declared.script.Mapping.{Mapping}
-use Rattle.bus_semantics.specs.declared.script.Task.{Task}
-use Rattle.bus_semantics.specs.declared.entries.Actor.TheVariants.{Machine, Act}
-use Rattle.bus_semantics.specs.Plan.{Plan, positions, server_of, caller_of, runnable_of_event}
-use Rattle.bus_semantics.specs.Wanted.{Wanted, to_start, to_move_on}
-use Rattle.bus_semantics.specs.History.{History}
-use Rattle.bus_semantics.specs.Actor.{next_wish, direct_key, asked_last}
-use Rattle.bus_semantics.specs.Rest.{Try, plain_key, option_list, gathered, keys_of, goes_on_tries, direct_try, direct_tries, machine_tries, is_free, start_try, task_tries, tries, IsStuck, AllStuck, IsAtRest}
+use Rattle.bus_semantics.specs.Common.{slice_get, ActKey, same_number, Plan, positions, server_of, caller_of, runnable_of_event, Wanted, to_start, to_move_on, History, next_wish, direct_key}
+use Rattle.bus_semantics.specs.Common.{asked_last, Try, plain_key, option_list, gathered, keys_of, goes_on_tries, direct_try, direct_tries, machine_tries, is_free, start_try, task_tries}
+use Rattle.bus_semantics.specs.Common.{tries, IsStuck, AllStuck, IsAtRest}
+use Rattle.bus_laws.specs.Common.{ServerPlan, Mapping, Task, Machine, Act}
 use Rattle.no_stall.proofs.Lists.{Among, among_left, among_right, among_gathered, among_map, among_positions}
 
 stuck_among : (p : Plan) (h : History) (t : Try) (ts : List Try) → AllStuck p h ts → Among t ts → IsStuck p h t

@@ -1,33 +1,14 @@
 -- At rest no activation runs: areas are entered by rising numbers, a direct activation makes no calls, and tasks wait by rising ranks.
-use Rattle.std.proofs.Common.{◌≡◌, ℕ, zero, suc, ◌+◌, ◌<◌, ◌≤◌, Bool, true, false, ◌&&◌, ◌==◌, if◌then◌else◌, refl, sym, ◌∙◌, ap, subst, arith, List, [], length, nat_lt, nat_le, is_some, is_none, Option, Some, None}
-use Rattle.std.specs.List.{list_any, slice_get}
+use Rattle.std.proofs.Common.{◌≡◌, ℕ, zero, suc, ◌+◌, ◌<◌, ◌≤◌, Bool, true, false, ◌&&◌, ◌==◌, if◌then◌else◌, refl, sym, ◌∙◌, ap, subst, arith, List, [], length, nat_lt, nat_le, is_some}
+use Rattle.std.proofs.Common.{is_none, Option, Some, None}
+use Rattle.bus_semantics.specs.Common.{list_any, slice_get, and_parts, eqb-true, eq-eqb, ltb-true, false≢true, slice_get_within, ActKey, same_number, Plan, server_of, caller_of, queue_of}
+use Rattle.bus_semantics.specs.Common.{kind_of, runnable_of_event, instance_of, Wanted, to_admit, to_hear, to_start, to_enter, to_end, History, runs, last_started, noted, serves_directly}
+use Rattle.bus_semantics.specs.Common.{key_fits, area_fits, modes_of, mode_at_port, wish_fits, answer_to, has_unstarted, is_held, IsLegal, accepted_point, asked_last, direct_key}
+use Rattle.bus_semantics.specs.Common.{ended_since, is_held_back, caller_has_asked, plain_key, event_runs, is_free, IsStuck, IsAtRest, times_mapped, IsSound}
 use Rattle.std.specs.Prelude.{option_and_then}
-use Rattle.std.proofs.lemmas.Bool.{and_parts, eqb-true, eq-eqb, ltb-true, false≢true, not-false}
-use Rattle.std.proofs.lemmas.Option.{slice_get_within}
-use Rattle.rte_value.specs.declared.kinds.ActKey.{ActKey}
-use Rattle.rte_value.specs.Values.{same_number}
-use Rattle.bus_semantics.specs.declared.plan.AreaPlan.{AreaPlan}
-use Rattle.bus_semantics.specs.declared.plan.ServerPlan.{ServerPlan}
-use Rattle.bus_semantics.specs.declared.plan.ModePortPlan.{ModePortPlan}
-use Rattle.bus_semantics.specs.declared.plan.EventPlan.{EventPlan}
-use Rattle.bus_semantics.specs.declared.plan.EventKind.{EventKind}
-use Rattle.bus_semantics.specs.declared.plan.EventKind.TheVariants.{Invoked}
-use Rattle.bus_semantics.specs.declared.script.Mapping.{Mapping}
-use Rattle.bus_semantics.specs.declared.script.Task.{Task}
-use Rattle.bus_semantics.specs.declared.entries.Actor.TheVariants.{Act}
+use Rattle.std.proofs.lemmas.Bool.{not-false}
+use Rattle.bus_laws.specs.Common.{AreaPlan, ServerPlan, ModePortPlan, EventPlan, EventKind, Invoked, Mapping, Task, Act}
 use Rattle.bus_semantics.specs.declared.entries.Deed.TheVariants as deed
-use Rattle.bus_semantics.specs.Plan.{Plan, server_of, caller_of, queue_of, kind_of, runnable_of_event, instance_of}
-use Rattle.bus_semantics.specs.Wanted.{Wanted, to_admit, to_hear, to_start, to_enter, to_end}
-use Rattle.bus_semantics.specs.History.{History, runs, last_started, noted}
-use Rattle.bus_semantics.specs.Owners.{serves_directly, key_fits, area_fits, modes_of}
-use Rattle.bus_semantics.specs.Modes.{mode_at_port}
-use Rattle.bus_semantics.specs.Fitting.{wish_fits}
-use Rattle.bus_semantics.specs.Calls.{answer_to, has_unstarted}
-use Rattle.bus_semantics.specs.Areas.{is_held}
-use Rattle.bus_semantics.specs.Legal.{IsLegal}
-use Rattle.bus_semantics.specs.Actor.{accepted_point, asked_last, direct_key, ended_since, is_held_back, caller_has_asked}
-use Rattle.bus_semantics.specs.Rest.{plain_key, event_runs, is_free, IsStuck, IsAtRest}
-use Rattle.bus_semantics.specs.Sound.{times_mapped, IsSound}
 use Rattle.bus_laws.proofs.Thinning.{Sought, found_where, sought_where}
 use Rattle.bus_laws.proofs.Local.{proper_legal}
 use Rattle.bus_laws.proofs.OneEvent.{kind_at, invoked_serves}

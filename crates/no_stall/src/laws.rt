@@ -1,12 +1,7 @@
 //! The law of no stall.
 
 ghost use Rattle.bus_semantics.specs.declared.script.Mapping.{Mapping};
-ghost use Rattle.bus_semantics.specs.Plan.{Plan};
-ghost use Rattle.bus_semantics.specs.History.{History};
-ghost use Rattle.bus_semantics.specs.Legal.{IsLegal};
-ghost use Rattle.bus_semantics.specs.Rest.{IsAtRest};
-ghost use Rattle.bus_semantics.specs.Quiet.{IsQuiet};
-ghost use Rattle.bus_semantics.specs.Sound.{IsSound};
+ghost use Rattle.bus_semantics.specs.Common.{Plan, History, IsLegal, IsAtRest, IsQuiet, IsSound};
 
 use history_laws::{
     activations_ask_what_fits, admission_comes_first, areas_open_and_close,

@@ -2,14 +2,8 @@
 use Rattle.std.proofs.Common.{◌≡◌, ◌<◌, ℕ, Bool, true, false, refl, ◌∙◌, ap, sym, length, get_or, Some}
 use Rattle.std.specs.Prelude.{option_and_then}
 use Rattle.std.proofs.lemmas.List.Elements.{filter_agree}
-use Rattle.rte_value.specs.Values.{same_number}
-use Rattle.bus_semantics.specs.declared.plan.EventKind.{EventKind}
-use Rattle.bus_semantics.specs.declared.plan.EventKind.TheVariants.{DataReceived}
-use Rattle.bus_semantics.specs.declared.script.Mapping.{Mapping}
-use Rattle.bus_semantics.specs.Plan.{Plan, group_of, kind_of, positions}
-use Rattle.bus_semantics.specs.Bundles.{home_of, bundle_of, bundle_of_list}
-use Rattle.bus_semantics.specs.Unqueued.{is_in_group}
-use Rattle.bus_semantics.specs.Sound.{IsSound}
+use Rattle.bus_semantics.specs.Common.{same_number, Plan, group_of, kind_of, positions, home_of, bundle_of, bundle_of_list, is_in_group, IsSound}
+use Rattle.bus_laws.specs.Common.{EventKind, DataReceived, Mapping}
 use Rattle.bus_laws.proofs.Bundling.{begins, begun_home, home_there}
 use Rattle.bus_laws.proofs.ObjectLists.{IsUnnamed, unnamed_alone, unnamed_untouched, untouched_unnamed, one_group}
 use Rattle.object_kinds.specs.Layout.{group_at, IsAlone, events_of, waits_for_data, waits_in_bundle}

@@ -1,17 +1,10 @@
 -- What an entry names that touches an object, by what the object is. This is the one place that goes through all deeds for it.
 use Rattle.std.proofs.Common.{◌≡◌, ℕ, true, Option, Some, None}
 use Rattle.std.specs.Prelude.{option_map, option_and_then}
-use Rattle.bus_semantics.specs.declared.plan.EventKind.{EventKind}
-use Rattle.bus_semantics.specs.declared.plan.EventKind.TheVariants.{Timing, Init, DataReceived, Invoked, Returns, ModeSwitch, Ack}
-use Rattle.bus_semantics.specs.declared.script.Mapping.{Mapping}
-use Rattle.bus_semantics.specs.declared.entries.Actor.{Actor}
-use Rattle.bus_semantics.specs.declared.entries.Deed.{Deed}
+use Rattle.bus_laws.specs.Common.{EventKind, Timing, Init, DataReceived, Invoked, Returns, ModeSwitch, Ack, Mapping, Actor, Deed}
 use Rattle.bus_semantics.specs.declared.entries.Deed.TheVariants as deed
-use Rattle.bus_semantics.specs.Plan.{Plan, kind_of, server_of, machine_of_port}
-use Rattle.bus_semantics.specs.Bundles.{bundle_of, bundle_of_list}
-use Rattle.bus_semantics.specs.Objects.{disabler_of, machine_of_event, served_by, machine_itself, touches}
-use Rattle.bus_semantics.specs.Locality.{is_proper}
-use Rattle.bus_semantics.specs.Sound.{IsSound}
+use Rattle.bus_semantics.specs.Common.{Plan, kind_of, server_of, machine_of_port, bundle_of, bundle_of_list, disabler_of, machine_of_event, served_by, machine_itself, touches, is_proper}
+use Rattle.bus_semantics.specs.Common.{IsSound}
 use Rattle.object_kinds.proofs.Numbers.{Which, a_bundle, a_server, an_area, a_machine, the_clock, number_of, IsIn, which_of, which_starts, touched_which}
 use Rattle.object_kinds.proofs.Proper.{noting}
 

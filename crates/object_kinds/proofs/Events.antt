@@ -1,26 +1,10 @@
 -- The events of a plan by kind: each once, in rising order, and each has its place.
 use Rattle.std.proofs.Common.{◌≡◌, ◌<◌, ◌≤◌, ℕ, zero, suc, Bool, true, false, refl, ◌∙◌, ap, arith, List, [], ◌∷◌, length, Option, Some}
 use Rattle.std.specs.Prelude.{nat_lt}
-use Rattle.std.specs.List.{list_all, slice_get}
-use Rattle.std.specs.Option.{option_map_or}
-use Rattle.std.proofs.lemmas.Bool.{and_parts, eq-eqb, false≢true}
-use Rattle.std.proofs.lemmas.Bool.Decides.{nat_tests}
-use Rattle.rte_value.specs.Values.{same_number}
-use Rattle.bus_semantics.specs.declared.plan.EventPlan.{EventPlan}
-use Rattle.bus_semantics.specs.declared.plan.EventKind.{EventKind}
-use Rattle.bus_semantics.specs.declared.plan.EventKind.TheVariants.{Init, DataReceived}
-use Rattle.bus_semantics.specs.declared.entries.Actor.{Actor}
-use Rattle.bus_semantics.specs.declared.entries.Actor.TheVariants.{Env, Machine, Act}
-use Rattle.bus_semantics.specs.Plan.{Plan, kind_of, group_of, instance_of, positions}
-use Rattle.bus_semantics.specs.Bundles.{home_of, bundle_of}
-use Rattle.bus_semantics.specs.Wanted.{to_start}
-use Rattle.bus_semantics.specs.Owners.{key_fits, event_fits}
-use Rattle.bus_semantics.specs.Fitting.{wish_fits}
-use Rattle.bus_semantics.specs.Unqueued.{is_in_group}
-use Rattle.bus_semantics.specs.SoundPlan.{is_distinct}
-use Rattle.bus_semantics.specs.SoundLists.{bundles_fit}
-use Rattle.object_kinds.specs.Layout.{events_of, waits_for_data, waits_in_bundle}
-use Rattle.object_kinds.specs.Rising.{is_rising}
+use Rattle.bus_semantics.specs.Common.{list_all, slice_get, option_map_or, and_parts, eq-eqb, false≢true, nat_tests, same_number, Plan, kind_of, group_of, instance_of, positions, home_of}
+use Rattle.bus_semantics.specs.Common.{bundle_of, to_start, key_fits, event_fits, wish_fits, is_in_group, is_distinct, bundles_fit}
+use Rattle.bus_laws.specs.Common.{EventPlan, EventKind, Init, DataReceived, Actor, Env, Machine, Act}
+use Rattle.object_kinds.specs.Common.{events_of, waits_for_data, waits_in_bundle, is_rising}
 use Rattle.object_kinds.proofs.Lists.{all_filter}
 use Rattle.object_kinds.proofs.Options.{number_is, is_number, then_some}
 use Rattle.object_kinds.proofs.Placing.{Placed, placed}

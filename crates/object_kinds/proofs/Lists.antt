@@ -1,10 +1,7 @@
 -- Lists whose items pass a test, and what stands at a place of them.
 use Rattle.std.proofs.Common.{◌≡◌, ◌<◌, ◌+◌, ℕ, zero, suc, Bool, true, false, ◌&&◌, if◌then◌else◌, refl, sym, ◌∙◌, ap, subst, arith, List, [], ◌∷◌, ◌++◌, length, map, get_or, Some}
 use Rattle.std.specs.Prelude.{filter, replicate, set, option_map}
-use Rattle.std.specs.List.{list_all, slice_get}
-use Rattle.std.proofs.lemmas.Bool.{and_parts}
-use Rattle.std.proofs.lemmas.Option.{slice_get-map, slice_get-get_or}
-use Rattle.bus_semantics.specs.Plan.{every_from}
+use Rattle.bus_semantics.specs.Common.{list_all, slice_get, and_parts, slice_get-map, slice_get-get_or, every_from}
 
 -- ---- all pass
 

@@ -1,20 +1,12 @@
 -- The elements of a group: those that a sound plan lists for it are those that are in it, and each has its place.
 use Rattle.std.proofs.Common.{◌≡◌, ℕ, zero, suc, ◌+◌, ◌<◌, Bool, true, false, ◌&&◌, not, ◌==◌, refl, sym, ◌∙◌, ap, arith, List, [], ◌∷◌, length, Option, Some, None}
-use Rattle.std.proofs.lemmas.Option.{slice_get_within}
-use Rattle.std.proofs.lemmas.Bool.{and_parts, eq-eqb, eqb-true, false≢true}
-use Rattle.std.proofs.lemmas.Bool.Decides.{nat_tests}
-use Rattle.std.specs.Option.{option_map_or}
+use Rattle.bus_semantics.specs.Common.{slice_get_within, and_parts, eq-eqb, eqb-true, false≢true, nat_tests, option_map_or, list_all, slice_get, Plan, look, group_of, every_from, positions}
+use Rattle.bus_semantics.specs.Common.{is_in_group, same_numbers, members, firsts, groups_fit, is_distinct, same_number}
 use Rattle.std.proofs.lemmas.List.Elements.{filter_agree}
 use Rattle.std.specs.Prelude.{nat_lt}
-use Rattle.std.specs.List.{list_all, slice_get}
 use Rattle.bus_semantics.specs.declared.plan.ElemPlan.{ElemPlan}
-use Rattle.bus_semantics.specs.Plan.{Plan, look, group_of, every_from, positions}
-use Rattle.bus_semantics.specs.Unqueued.{is_in_group}
-use Rattle.bus_semantics.specs.SoundPlan.{same_numbers, members, firsts, groups_fit, is_distinct}
 use Rattle.bus_semantics.specs.SoundPlan as sound_plan
-use Rattle.object_kinds.specs.Layout.{members_of}
-use Rattle.object_kinds.specs.Rising.{is_rising}
-use Rattle.rte_value.specs.Values.{same_number}
+use Rattle.object_kinds.specs.Common.{members_of, is_rising}
 use Rattle.object_kinds.proofs.Lists.{all_filter, every_at, every_all}
 use Rattle.object_kinds.proofs.Options.{clash}
 use Rattle.object_kinds.proofs.Placing.{Placed, placed}

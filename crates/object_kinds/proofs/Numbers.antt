@@ -2,26 +2,11 @@
 -- two objects.
 use Rattle.std.proofs.Common.{◌≡◌, ◌<◌, ◌+◌, ℕ, true, ◌&&◌, refl, sym, ◌∙◌, ap, subst, arith, length, Option, Some, None}
 use Rattle.std.specs.Prelude.{nat_lt, option_map, option_and_then}
-use Rattle.std.proofs.lemmas.Bool.{and_parts, false≢true, ltb-true}
-use Rattle.std.proofs.lemmas.Option.{same_Some}
-use Rattle.rte_value.specs.Values.{same_number}
-use Rattle.bus_semantics.specs.declared.plan.AreaPlan.{AreaPlan}
-use Rattle.bus_semantics.specs.declared.plan.MachinePlan.{MachinePlan}
-use Rattle.bus_semantics.specs.declared.plan.EventKind.{EventKind}
-use Rattle.bus_semantics.specs.declared.plan.EventKind.TheVariants.{Timing, Init, DataReceived, Invoked, Returns, ModeSwitch, Ack}
-use Rattle.bus_semantics.specs.declared.script.Mapping.{Mapping}
-use Rattle.bus_semantics.specs.declared.entries.Actor.{Actor}
-use Rattle.bus_semantics.specs.declared.entries.Actor.TheVariants.{Env, Machine, Act}
-use Rattle.bus_semantics.specs.declared.entries.Deed.{Deed}
+use Rattle.bus_semantics.specs.Common.{and_parts, false≢true, ltb-true, same_Some, same_number, Plan, kind_of, server_of, machine_of_port, bundle_of, bundle_of_list, to_enter, to_leave}
+use Rattle.bus_semantics.specs.Common.{to_switch, to_move_on, first_server, first_area, first_machine, clock, server_object, machine_object, object_of_kind, disabler_of, owing}
+use Rattle.bus_semantics.specs.Common.{machine_of_event, served_by, machine_itself, touched_by, touches, area_fits, switch_fits, wish_fits, machine_may_want, is_proper, IsSound}
+use Rattle.bus_laws.specs.Common.{AreaPlan, MachinePlan, EventKind, Timing, Init, DataReceived, Invoked, Returns, ModeSwitch, Ack, Mapping, Actor, Env, Machine, Act, Deed}
 use Rattle.bus_semantics.specs.declared.entries.Deed.TheVariants as deed
-use Rattle.bus_semantics.specs.Plan.{Plan, kind_of, server_of, machine_of_port}
-use Rattle.bus_semantics.specs.Bundles.{bundle_of, bundle_of_list}
-use Rattle.bus_semantics.specs.Wanted.{to_enter, to_leave, to_switch, to_move_on}
-use Rattle.bus_semantics.specs.Objects.{first_server, first_area, first_machine, clock, server_object, machine_object, object_of_kind, disabler_of, owing, machine_of_event, served_by, machine_itself, touched_by, touches}
-use Rattle.bus_semantics.specs.Owners.{area_fits, switch_fits}
-use Rattle.bus_semantics.specs.Fitting.{wish_fits, machine_may_want}
-use Rattle.bus_semantics.specs.Locality.{is_proper}
-use Rattle.bus_semantics.specs.Sound.{IsSound}
 use Rattle.object_kinds.proofs.Options.{number_is, then_some, mapped_some}
 use Rattle.object_kinds.proofs.Proper.{noting, wish_part, by_actor}
 use Rattle.object_kinds.proofs.Ranges.{sought, bundle_within, list_within, invoked_server, switching_machine, acked_machine, disabling_machine, joined_server, port_machine, serving_server}

@@ -1,8 +1,7 @@
 -- What a test, a step and a map of options gave, when they give something, and whether a number was given.
 use Rattle.std.proofs.Common.{◌≡◌, ℕ, Bool, true, false, refl, sym, ◌∙◌, ap, Option, Some, None, is_some}
 use Rattle.std.specs.Prelude.{option_map, option_and_then}
-use Rattle.std.proofs.lemmas.Bool.{eq-eqb, eqb-true, false≢true}
-use Rattle.rte_value.specs.Values.{same_number}
+use Rattle.bus_semantics.specs.Common.{eq-eqb, eqb-true, false≢true, same_number}
 use Rattle.object_kinds.specs.Flags.{given}
 
 -- no test gives both

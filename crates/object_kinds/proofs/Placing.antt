@@ -1,13 +1,7 @@
 -- Where a number stands in a list (`place`), and lists by place of which one item is replaced.
 use Rattle.std.proofs.Common.{◌≡◌, ◌<◌, ℕ, zero, suc, Bool, true, false, not, ◌==◌, if◌then◌else◌, refl, sym, ◌∙◌, ap, subst, arith, List, [], ◌∷◌, ◌++◌, length, map, Option, Some, None}
 use Rattle.std.specs.Prelude.{filter, set, option_map}
-use Rattle.std.specs.List.{list_all, list_any, slice_get}
-use Rattle.std.proofs.lemmas.Bool.{and_parts, eq-eqb, eqb-true, not-true, or_parts}
-use Rattle.std.proofs.lemmas.Bool.Decides.{nat_tests}
-use Rattle.std.proofs.lemmas.List.Elements.{filter-append}
-use Rattle.std.proofs.lemmas.Option.{slice_get_within}
-use Rattle.bus_semantics.specs.Plan.{positions}
-use Rattle.bus_semantics.specs.SoundPlan.{is_distinct}
+use Rattle.bus_semantics.specs.Common.{list_all, list_any, slice_get, and_parts, eq-eqb, eqb-true, not-true, or_parts, nat_tests, filter-append, slice_get_within, positions, is_distinct}
 use Rattle.object_kinds.specs.Layout.{place}
 use Rattle.object_kinds.proofs.Options.{clash, mapped_some}
 

@@ -1,14 +1,10 @@
 -- The positions below a number, and those of them that pass a test: each once, and one after the other.
 use Rattle.std.proofs.Common.{◌≡◌, ◌≤◌, ℕ, zero, suc, Bool, true, false, ◌&&◌, ◌||◌, not, ◌==◌, if◌then◌else◌, refl, sym, ◌∙◌, ap, subst, arith, List, [], ◌∷◌, ◌++◌, length, map, length-append}
 use Rattle.std.specs.Prelude.{filter, nat_lt}
-use Rattle.std.specs.List.{list_all, list_any, count_by}
-use Rattle.std.proofs.lemmas.Bool.{and_parts, not-true, or_parts}
-use Rattle.std.proofs.lemmas.Bool.Decides.{nat_tests}
-use Rattle.std.proofs.lemmas.List.{append-nil, map_push}
-use Rattle.std.proofs.lemmas.List.Elements.{filter-append}
+use Rattle.bus_semantics.specs.Common.{list_all, list_any, and_parts, not-true, or_parts, nat_tests, append-nil, filter-append, positions, is_distinct}
+use Rattle.std.specs.List.{count_by}
+use Rattle.std.proofs.lemmas.List.{map_push}
 use Rattle.std.proofs.lemmas.List.Sums.{length-filter, count_by-le-length}
-use Rattle.bus_semantics.specs.Plan.{positions}
-use Rattle.bus_semantics.specs.SoundPlan.{is_distinct}
 use Rattle.object_kinds.proofs.Lists.{all_end, all_kept}
 
 -- ---- below, and how many

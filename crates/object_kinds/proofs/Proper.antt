@@ -1,19 +1,10 @@
 -- The parts of a proper entry: the wish fits its actor, and what the bus answered fits the wish.
 use Rattle.std.proofs.Common.{◌≡◌, ℕ, Bool, true, false, if◌then◌else◌, refl, sym, length, Option, Some, None}
 use Rattle.std.specs.Prelude.{nat_lt}
-use Rattle.std.proofs.lemmas.Bool.{and_parts, false≢true}
-use Rattle.rte_value.specs.declared.kinds.ActKey.{ActKey}
-use Rattle.bus_semantics.specs.declared.entries.Actor.{Actor}
-use Rattle.bus_semantics.specs.declared.entries.Actor.TheVariants.{Env, Machine, Act}
-use Rattle.bus_semantics.specs.declared.entries.Deed.{Deed}
+use Rattle.bus_semantics.specs.Common.{and_parts, false≢true, ActKey, Plan, instance_of, Wanted, wanted_by, Noted, Past, needs_event, key_fits, fits, wish_fits, activation_fits, answer_fits}
+use Rattle.bus_semantics.specs.Common.{environment_may_want, activation_may_want, machine_may_want, admission_allows, is_proper, starts_its_own}
+use Rattle.bus_laws.specs.Common.{Actor, Env, Machine, Act, Deed}
 use Rattle.bus_semantics.specs.declared.entries.Deed.TheVariants as deed
-use Rattle.bus_semantics.specs.Plan.{Plan, instance_of}
-use Rattle.bus_semantics.specs.Wanted.{Wanted, wanted_by}
-use Rattle.bus_semantics.specs.History.{Noted, Past, needs_event}
-use Rattle.bus_semantics.specs.Owners.{key_fits}
-use Rattle.bus_semantics.specs.Fitting.{fits, wish_fits, activation_fits, answer_fits, environment_may_want, activation_may_want, machine_may_want}
-use Rattle.bus_semantics.specs.Legal.{admission_allows}
-use Rattle.bus_semantics.specs.Locality.{is_proper, starts_its_own}
 
 -- an entry by its parts
 abbrev pub noting : Actor → Deed → Option ℕ → Noted

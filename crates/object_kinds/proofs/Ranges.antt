@@ -1,29 +1,10 @@
 -- In a sound plan what is named is there.
 use Rattle.std.proofs.Common.{◌≡◌, ℕ, zero, suc, ◌<◌, Bool, true, false, ◌&&◌, ◌||◌, not, ◌==◌, refl, sym, ◌∙◌, ap, subst, arith, List, [], ◌∷◌, length, Option, Some, None}
 use Rattle.std.specs.Prelude.{nat_lt, nat_le, option_map}
-use Rattle.std.specs.List.{list_all, list_any, slice_get}
-use Rattle.std.specs.Option.{option_map_or}
-use Rattle.std.proofs.lemmas.Bool.{and_parts, eqb-true, false≢true, ltb-true}
-use Rattle.std.proofs.lemmas.Option.{same_Some}
-use Rattle.rte_value.specs.Values.{same_number}
-use Rattle.bus_semantics.specs.declared.plan.PointPlan.{PointPlan}
-use Rattle.bus_semantics.specs.declared.plan.ServerPlan.{ServerPlan}
-use Rattle.bus_semantics.specs.declared.plan.ModePortPlan.{ModePortPlan}
-use Rattle.bus_semantics.specs.declared.plan.EventPlan.{EventPlan}
-use Rattle.bus_semantics.specs.declared.plan.EventKind.{EventKind}
-use Rattle.bus_semantics.specs.declared.plan.EventKind.TheVariants.{Init, Invoked, ModeSwitch, Ack}
-use Rattle.bus_semantics.specs.declared.plan.Moment.{Moment}
-use Rattle.bus_semantics.specs.declared.plan.Disabling.{Disabling}
-use Rattle.bus_semantics.specs.declared.script.Mapping.{Mapping}
-use Rattle.bus_semantics.specs.declared.entries.Actor.{Actor}
-use Rattle.bus_semantics.specs.declared.entries.Actor.TheVariants.{Env, Machine, Act}
-use Rattle.bus_semantics.specs.Plan.{Plan, Runnable, look, every_from, kind_of, group_of, server_of, machine_of_port, instance_of}
-use Rattle.bus_semantics.specs.Lists.{elems_of}
-use Rattle.bus_semantics.specs.Bundles.{home_of, bundle_of, bundle_of_list}
-use Rattle.bus_semantics.specs.Objects.{disabler_of, served_by}
-use Rattle.bus_semantics.specs.SoundEvents.{requires_machine, kind_sound, disabling_sound, is_invoked, event_sound, server_served, serves_back}
-use Rattle.bus_semantics.specs.SoundLists.{bundles_fit}
-use Rattle.bus_semantics.specs.Sound.{IsSound}
+use Rattle.bus_semantics.specs.Common.{list_all, list_any, slice_get, option_map_or, and_parts, eqb-true, false≢true, ltb-true, same_Some, same_number, Plan, Runnable, look, every_from}
+use Rattle.bus_semantics.specs.Common.{kind_of, group_of, server_of, machine_of_port, instance_of, elems_of, home_of, bundle_of, bundle_of_list, disabler_of, served_by, requires_machine}
+use Rattle.bus_semantics.specs.Common.{kind_sound, disabling_sound, is_invoked, event_sound, server_served, serves_back, bundles_fit, IsSound}
+use Rattle.bus_laws.specs.Common.{PointPlan, ServerPlan, ModePortPlan, EventPlan, EventKind, Init, Invoked, ModeSwitch, Ack, Moment, Disabling, Mapping, Actor, Env, Machine, Act}
 use Rattle.object_kinds.proofs.Lists.{all_at, every_at}
 use Rattle.object_kinds.proofs.Options.{clash, then_some}
 

@@ -1,16 +1,9 @@
 -- In rising numbers, what stands somewhere stands there first, and no place is greater than its number.
 use Rattle.std.proofs.Common.{◌≡◌, ℕ, zero, suc, ◌<◌, ◌≤◌, Bool, true, false, ◌&&◌, ◌==◌, refl, sym, ◌∙◌, ap, subst, arith, List, [], ◌∷◌, ◌++◌, length, get_or, Some, None, if◌then◌else◌}
 use Rattle.std.specs.Prelude.{option_map, nat_lt}
-use Rattle.std.proofs.lemmas.Bool.Decides.{nat_tests}
-use Rattle.object_kinds.specs.Layout.{place}
-use Rattle.std.specs.List.{list_all, slice_get}
-use Rattle.std.proofs.lemmas.List.Elements.{filter-append}
-use Rattle.std.proofs.lemmas.Bool.{and_parts}
-use Rattle.std.proofs.lemmas.List.{append-nil}
-use Rattle.std.proofs.lemmas.Option.{slice_get_within, get_or_from_slice_get}
+use Rattle.bus_semantics.specs.Common.{nat_tests, list_all, slice_get, filter-append, and_parts, append-nil, slice_get_within, get_or_from_slice_get, positions}
+use Rattle.object_kinds.specs.Common.{place, is_rising}
 use Rattle.std.specs.Prelude.{filter}
-use Rattle.bus_semantics.specs.Plan.{positions}
-use Rattle.object_kinds.specs.Rising.{is_rising}
 use Rattle.object_kinds.proofs.Lists.{all_end, all_kept}
 use Rattle.object_kinds.proofs.Positions.{below_positions}
 

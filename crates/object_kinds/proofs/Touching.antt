@@ -1,27 +1,10 @@
 -- What touches a group: a deed with an element of it, or a start by a DataReceivedEvent of one. And which deeds are of queued elements.
 use Rattle.std.proofs.Common.{◌≡◌, ℕ, Bool, true, false, ◌&&◌, not, refl, sym, ◌∙◌, ap, Option, Some}
-use Rattle.std.specs.Option.{option_map_or}
-use Rattle.std.proofs.lemmas.Bool.{and_parts, false≢true}
-use Rattle.rte_value.specs.declared.value.Value.{Value}
-use Rattle.rte_value.specs.Values.{words_of, same_number}
-use Rattle.bus_semantics.specs.declared.plan.ElemPlan.{ElemPlan}
-use Rattle.bus_semantics.specs.declared.plan.ElemKind.{ElemKind}
-use Rattle.bus_semantics.specs.declared.plan.ElemKind.TheVariants.{Unqueued, Queued, Variable}
-use Rattle.bus_semantics.specs.declared.plan.EventKind.{EventKind}
-use Rattle.bus_semantics.specs.declared.plan.EventKind.TheVariants.{DataReceived}
-use Rattle.bus_semantics.specs.declared.script.Mapping.{Mapping}
-use Rattle.bus_semantics.specs.declared.entries.Actor.{Actor}
-use Rattle.bus_semantics.specs.declared.entries.Deed.{Deed}
+use Rattle.bus_semantics.specs.Common.{option_map_or, and_parts, false≢true, Value, words_of, same_number, Plan, look, group_of, kind_of, to_fetch, to_write, to_read, to_invalidate}
+use Rattle.bus_semantics.specs.Common.{to_see_updated, to_send, to_receive, to_publish, home_of, bundle_of, touches, elem_fits, is_writable, is_readable, is_unqueued, is_queued, holds}
+use Rattle.bus_semantics.specs.Common.{is_in_group, elems_of, is_proper, IsSound}
+use Rattle.bus_laws.specs.Common.{ElemPlan, ElemKind, Unqueued, Queued, Variable, EventKind, DataReceived, Mapping, Actor, Deed}
 use Rattle.bus_semantics.specs.declared.entries.Deed.TheVariants as deed
-use Rattle.bus_semantics.specs.Plan.{Plan, look, group_of, kind_of}
-use Rattle.bus_semantics.specs.Wanted.{to_fetch, to_write, to_read, to_invalidate, to_see_updated, to_send, to_receive, to_publish}
-use Rattle.bus_semantics.specs.Bundles.{home_of, bundle_of}
-use Rattle.bus_semantics.specs.Objects.{touches}
-use Rattle.bus_semantics.specs.Owners.{elem_fits, is_writable, is_readable, is_unqueued, is_queued, holds}
-use Rattle.bus_semantics.specs.Unqueued.{is_in_group}
-use Rattle.bus_semantics.specs.Lists.{elems_of}
-use Rattle.bus_semantics.specs.Locality.{is_proper}
-use Rattle.bus_semantics.specs.Sound.{IsSound}
 use Rattle.bus_laws.proofs.OneBundle.{has}
 use Rattle.bus_laws.proofs.ObjectLists.{listed_unqueued}
 use Rattle.object_kinds.specs.Layout.{group_at, IsAlone, waits_for_data}

@@ -1,7 +1,6 @@
 -- The events that wait for each object, while they are gathered.
 use Rattle.std.specs.Prelude.{ℕ, List, [], Vec, slice_get}
-use Rattle.std.specs.Global.{Global}
-use Rattle.std.specs.Option.{option_map_or}
+use Rattle.bus_semantics.specs.Common.{Global, option_map_or}
 
 -- the list of a group
 abbrev pub listed_at : List (Vec ℕ Global) → (group : ℕ) → List ℕ

@@ -2,19 +2,8 @@
 -- are what the definitions give from a past; `lead`, what is kept after an entry, or nothing if the entry may not come; `may_start`, whether
 -- a start by an event may come. No word names a kind.
 use Rattle.std.specs.Prelude.{◌≡◌, ◌∷◌, ℕ, Bool, true, false, Option, Some, None, is_some, unwrap_or}
-use Rattle.bus_semantics.specs.declared.entries.Actor.{Actor}
-use Rattle.bus_semantics.specs.declared.entries.Actor.TheVariants.{Act}
-use Rattle.bus_semantics.specs.declared.entries.Deed.{Deed}
-use Rattle.bus_semantics.specs.declared.entries.Entry.{Entry}
-use Rattle.bus_semantics.specs.Plan.{Plan}
-use Rattle.bus_semantics.specs.History.{Noted, Past}
-use Rattle.bus_semantics.specs.Objects.{touches}
-use Rattle.bus_semantics.specs.Locality.{is_proper}
-use Rattle.bus_semantics.specs.Wanted.{Wanted, to_start, wanted_by}
-use Rattle.bus_semantics.specs.Fitting.{answer_fits}
-use Rattle.bus_semantics.specs.Rest.{plain_key}
-use Rattle.bus_semantics.specs.Asked.{event_of, noted_for}
-use Rattle.bus_semantics.specs.Pasts.{Follows, IsPastOf}
+use Rattle.bus_laws.specs.Common.{Actor, Act, Deed, Entry}
+use Rattle.bus_semantics.specs.Common.{Plan, Noted, Past, touches, is_proper, Wanted, to_start, wanted_by, answer_fits, plain_key, event_of, noted_for, Follows, IsPastOf}
 use Rattle.object_kinds.specs.declared.acted.Acted.{Acted}
 use Rattle.object_kinds.specs.declared.acted.Acted.TheVariants.{Done, NotYet}
 use Rattle.object_kinds.specs.declared.acted.Shown.{Shown}

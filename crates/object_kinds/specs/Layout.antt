@@ -1,11 +1,7 @@
 -- What of a plan belongs to one object: the elements of a group, the group that a bundle is, and the events that wait for them.
 use Rattle.std.specs.Prelude.{◌≡◌, ℕ, zero, suc, List, [], ◌∷◌, length, filter, get_or, Bool, false, ◌==◌, if◌then◌else◌, Option, Some, None, option_map}
-use Rattle.rte_value.specs.Values.{same_number}
-use Rattle.bus_semantics.specs.declared.plan.EventKind.{EventKind}
-use Rattle.bus_semantics.specs.declared.plan.EventKind.TheVariants.{DataReceived}
-use Rattle.bus_semantics.specs.Plan.{Plan, kind_of, positions}
-use Rattle.bus_semantics.specs.Bundles.{home_of, bundle_of, bundle_of_list, groups_at}
-use Rattle.bus_semantics.specs.Unqueued.{is_in_group}
+use Rattle.bus_semantics.specs.Common.{same_number, Plan, kind_of, positions, home_of, bundle_of, bundle_of_list, groups_at, is_in_group}
+use Rattle.bus_laws.specs.Common.{EventKind, DataReceived}
 
 -- the elements of a group, in rising order
 abbrev pub members_of : Plan → (group : ℕ) → List ℕ

@@ -3,3 +3,4 @@ pub mod Rising
 pub mod Flags
 pub mod Gathered
 pub mod Kinds
+pub mod Common

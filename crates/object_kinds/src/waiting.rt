@@ -1,9 +1,7 @@
 //! The events that wait for the data of each bundle.
 
 ghost use Rattle.std.specs.Prelude.{◌≡◌, ℕ, ◌<◌, ◌≤◌, ◌^◌, ◌++◌, ◌==◌, [], ◌∷◌, length, true, Some, IfOk, OnOk, if◌then◌else◌};
-ghost use Rattle.rte_value.specs.Values.{same_number};
-ghost use Rattle.bus_semantics.specs.Plan.{plan_of, kind_of};
-ghost use Rattle.bus_semantics.specs.SoundLists.{bundles_fit};
+ghost use Rattle.bus_semantics.specs.Common.{same_number, plan_of, kind_of, bundles_fit};
 ghost use Rattle.object_kinds.specs.Layout.{events_of, waits_in_bundle};
 ghost use Rattle.object_kinds.specs.Gathered.{listed_at};
 

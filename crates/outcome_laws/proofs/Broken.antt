@@ -1,13 +1,7 @@
 -- The first connector that breaks rule 11, or none.
 use Rattle.std.proofs.Common.{◌≡◌, ℕ, zero, suc, ◌<◌, List, [], ◌∷◌, take, length, slice_get, false, Option, Some, None, ◌⊎◌, refl, sym, subst, ◌∙◌, arith}
-use Rattle.std.proofs.lemmas.Option.{same_Some, slice_get_within}
-use Rattle.std.specs.Option.{option_map_or}
-use Rattle.description_types.specs.declared.description.Composition.{Composition}
-use Rattle.description_types.specs.declared.description.Connector.{Connector}
-use Rattle.description_types.specs.declared.description.Description.{Description}
-use Rattle.description_types.specs.Connectors.{IsBrokenConnector, IsFirstBroken, connectors_of, lets_join}
-use Rattle.description_types.specs.Firsts.{IsFirst}
-use Rattle.description_types.specs.Members.{Among}
+use Rattle.bus_semantics.specs.Common.{same_Some, slice_get_within, option_map_or}
+use Rattle.plan_definitions.specs.Common.{Composition, Connector, Description, IsBrokenConnector, IsFirstBroken, connectors_of, lets_join, IsFirst, Among}
 use Rattle.outcome_laws.proofs.Deciding.{among_decided, as_well, connector_decided, either, false_decided, first_found}
 
 module _ (d : Description) where

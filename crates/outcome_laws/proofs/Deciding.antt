@@ -1,11 +1,7 @@
 -- What is decided: by parts, over lists, and the first number of which it holds.
 use Rattle.std.proofs.Common.{◌≡◌, ℕ, zero, suc, ◌+◌, ◌<◌, List, [], ◌∷◌, Bool, true, false, nat_eq, Option, Some, None, ◌⊎◌, inl, inr, ⊎_elim, refl, sym, ap, subst, true≢false, arith}
 use Rattle.std.proofs.lemmas.Bool.{eqb-true, eq-eqb}
-use Rattle.description_types.specs.declared.description.Connector.{Connector}
-use Rattle.description_types.specs.declared.description.Connector.TheVariants.{Assembly, Delegation}
-use Rattle.description_types.specs.declared.description.InnerPort.{InnerPort}
-use Rattle.description_types.specs.Firsts.{IsFirst}
-use Rattle.description_types.specs.Members.{Among}
+use Rattle.plan_definitions.specs.Common.{Connector, Assembly, Delegation, InnerPort, IsFirst, Among}
 
 pub bool_decided : (b : Bool) → Dec (b ≡ true)
 bool_decided true = yes refl

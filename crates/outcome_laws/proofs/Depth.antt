@@ -1,14 +1,10 @@
 -- Whether an instance stands too deep (rule 10).
-use Rattle.std.proofs.Common.{◌≡◌, ℕ, zero, suc, ◌<◌, ◌≤◌, List, [], ◌∷◌, length, slice_get, true, Option, Some, None, option_map, option_and_then, ◌⊎◌, inl, inr, ⊎_elim, refl, sym, ap, subst, ◌∙◌, arith}
+use Rattle.std.proofs.Common.{◌≡◌, ℕ, zero, suc, ◌<◌, ◌≤◌, List, [], ◌∷◌, length, slice_get, true, Option, Some, None, option_map, option_and_then, ◌⊎◌, inl, inr, ⊎_elim, refl, sym, ap}
+use Rattle.std.proofs.Common.{subst, ◌∙◌, arith}
 use Rattle.std.specs.Option.{option_map_or}
 use Rattle.description_types.specs.declared.description.Composition as declared_type
-use Rattle.description_types.specs.declared.description.Description.{Description}
-use Rattle.description_types.specs.declared.description.Prototype.{Prototype}
-use Rattle.description_types.specs.declared.description.PrototypeType.{PrototypeType}
+use Rattle.plan_definitions.specs.Common.{Description, Prototype, PrototypeType, Among, prototypes_of, type_at, type_in, IsTooDeep}
 use Rattle.description_types.specs.declared.description.PrototypeType.TheVariants.{Component, Composition}
-use Rattle.description_types.specs.Members.{Among}
-use Rattle.description_types.specs.Paths.{prototypes_of, type_at, type_in}
-use Rattle.description_types.specs.Places.{IsTooDeep}
 use Rattle.outcome_laws.proofs.Deciding.{as_well, bool_decided, both, either, nat_decided, some_of}
 use Rattle.outcome_laws.proofs.Graphs.{Steps, reached, reaches, reaches_all, steps_join}
 use Rattle.outcome_laws.proofs.Nesting.{holds, in_below, known, nodes, path_of, way_of}

@@ -2,11 +2,8 @@
 use Rattle.std.proofs.Common.{◌≡◌, ◌^◌, ◌≤◌, List, [], ◌∷◌, map, codes, slice_get, unwrap_or, refl, ap, ◌∙◌, arith}
 use Rattle.serde_json.specs.Data.{Data, null}
 use Rattle.serde_json.specs.Find.{get}
-use Rattle.runnable_lang.specs.declared.program.Program.{Program}
-use Rattle.runnable_lang.specs.Trees.{program_tree}
-use Rattle.description_types.specs.declared.component.Component.{Component}
-use Rattle.description_types.specs.declared.component.Runnable.{Runnable}
-use Rattle.description_types.specs.declared.description.Description.{Description}
+use Rattle.bus_semantics.specs.Common.{Program, program_tree}
+use Rattle.plan_definitions.specs.Common.{Component, Runnable, Description}
 use Rattle.declared_names.specs.declared.in_component.ComponentNames.{ComponentNames}
 use Rattle.declared_names.specs.declared.scopes.InterfaceNames.{InterfaceNames}
 use Rattle.declared_names.specs.declared.scopes.Scope.{Scope}

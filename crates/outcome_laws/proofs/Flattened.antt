@@ -1,12 +1,7 @@
 -- Each description is made flat, or is refused by rule 9, 10 or 11.
 use Rattle.std.proofs.Common.{◌≡◌, ℕ, ◌≤◌, List, length, codes, true, nat_le, Option, Some, None, ◌⊎◌, inl, inr, refl, arith}
-use Rattle.description_types.specs.declared.description.Description.{Description}
-use Rattle.description_types.specs.Connectors.{IsFirstBroken}
-use Rattle.description_types.specs.Firsts.{IsFirst}
-use Rattle.description_types.specs.Flattening.{IsRefusedAt, KeepsLimits, KeepsNesting, composition_place, connector_place}
-use Rattle.description_types.specs.Instances.{instances, names_env}
-use Rattle.description_types.specs.Paths.{ContainsItself}
-use Rattle.description_types.specs.Places.{places}
+use Rattle.plan_definitions.specs.Common.{Description, IsFirstBroken, IsFirst, IsRefusedAt, KeepsLimits, KeepsNesting, composition_place, connector_place, instances, names_env}
+use Rattle.plan_definitions.specs.Common.{ContainsItself, places}
 use Rattle.outcome_laws.specs.Flattened.{HasFlat, HasRefusal}
 use Rattle.outcome_laws.proofs.Broken.{first_broken}
 use Rattle.outcome_laws.proofs.Deciding.{as_well, bool_decided, both, false_decided, refused}

@@ -1,28 +1,14 @@
 -- The joined pairs of items, listed in order, and whether they are too many (rule 10).
-use Rattle.std.proofs.Common.{◌≡◌, ℕ, zero, suc, ◌+◌, ◌<◌, ◌≤◌, List, [], ◌∷◌, length, slice_get, Bool, true, false, nat_le, Option, Some, None, option_map, option_and_then, inl, inr, ◌↔◌, refl, sym, ap, subst, arith}
-use Rattle.std.proofs.lemmas.Option.{same_Some, slice_get_within}
-use Rattle.std.specs.List.{flat_map}
+use Rattle.std.proofs.Common.{◌≡◌, ℕ, zero, suc, ◌+◌, ◌<◌, ◌≤◌, List, [], ◌∷◌, length, slice_get, Bool, true, false, nat_le, Option, Some, None, option_map, option_and_then, inl, inr, ◌↔◌}
+use Rattle.std.proofs.Common.{refl, sym, ap, subst, arith}
+use Rattle.bus_semantics.specs.Common.{same_Some, slice_get_within, flat_map, option_map_or}
 use Rattle.std.specs.List.Sorted.{IsStrictlySortedBy}
-use Rattle.std.specs.Option.{option_map_or}
 use Rattle.description_types.specs.declared.component.Component as component
-use Rattle.description_types.specs.declared.component.Port.{Port}
+use Rattle.plan_definitions.specs.Common.{Port, Description, PrototypeType, Interface, InterfaceKind, SenderReceiver, ClientServer, ModeSwitch, End, Join, IsPastLimit, ItemsJoin}
+use Rattle.plan_definitions.specs.Common.{element_names, interface_at, operation_names, IsJoined, Stand, interface_below, stand_in, Among, sum_of, join_order, type_at, Place, places}
 use Rattle.description_types.specs.declared.description.Composition as composition
-use Rattle.description_types.specs.declared.description.Description.{Description}
-use Rattle.description_types.specs.declared.description.PrototypeType.{PrototypeType}
 use Rattle.description_types.specs.declared.description.PrototypeType.TheVariants.{Component, Composition}
-use Rattle.description_types.specs.declared.interface.Interface.{Interface}
-use Rattle.description_types.specs.declared.interface.InterfaceKind.{InterfaceKind}
-use Rattle.description_types.specs.declared.interface.InterfaceKind.TheVariants.{SenderReceiver, ClientServer, ModeSwitch}
-use Rattle.description_types.specs.declared.flat.End.{End}
-use Rattle.description_types.specs.declared.flat.Join.{Join}
 use Rattle.description_types.specs.Connectors.{interface_of, ports_of}
-use Rattle.description_types.specs.Growing.{IsPastLimit}
-use Rattle.description_types.specs.Items.{ItemsJoin, element_names, interface_at, operation_names}
-use Rattle.description_types.specs.Joined.{IsJoined, Stand, interface_below, stand_in}
-use Rattle.description_types.specs.Members.{Among, sum_of}
-use Rattle.description_types.specs.Orders.{join_order}
-use Rattle.description_types.specs.Paths.{type_at}
-use Rattle.description_types.specs.Places.{Place, places}
 use Rattle.composition_tables.proofs.Members.{flat, few_apart}
 use Rattle.outcome_laws.proofs.Nesting.{below, in_below}
 use Rattle.outcome_laws.proofs.Sorting.{is_sorted, join_exact, join_total, sorted, sorted_apart, sorted_members}

@@ -1,16 +1,10 @@
 -- Which compositions hold which, and whether one contains itself (rule 9) or an instance stands too deep (rule 10).
-use Rattle.std.proofs.Common.{◌≡◌, ℕ, zero, suc, ◌<◌, List, [], ◌∷◌, length, slice_get, Bool, true, false, nat_eq, Option, Some, None, option_map, option_and_then, inl, inr, ⊎_elim, refl, sym, ap, ◌∙◌, true≢false, arith}
-use Rattle.std.proofs.lemmas.Bool.{eqb-true, eq-eqb, or_cases, or_left, or_right}
-use Rattle.std.specs.List.{list_any}
-use Rattle.std.specs.Option.{option_map_or}
+use Rattle.std.proofs.Common.{◌≡◌, ℕ, zero, suc, ◌<◌, List, [], ◌∷◌, length, slice_get, Bool, true, false, nat_eq, Option, Some, None, option_map, option_and_then, inl, inr, ⊎_elim, refl}
+use Rattle.std.proofs.Common.{sym, ap, ◌∙◌, true≢false, arith}
+use Rattle.bus_semantics.specs.Common.{eqb-true, eq-eqb, or_cases, or_left, or_right, list_any, option_map_or}
 use Rattle.description_types.specs.declared.description.Composition as declared
-use Rattle.description_types.specs.declared.description.Description.{Description}
-use Rattle.description_types.specs.declared.description.Prototype.{Prototype}
-use Rattle.description_types.specs.declared.description.PrototypeType.{PrototypeType}
+use Rattle.plan_definitions.specs.Common.{Description, Prototype, PrototypeType, IsFirst, Among, ContainsItself, is_composition, prototypes_of, type_at, type_in}
 use Rattle.description_types.specs.declared.description.PrototypeType.TheVariants.{Component, Composition}
-use Rattle.description_types.specs.Firsts.{IsFirst}
-use Rattle.description_types.specs.Members.{Among}
-use Rattle.description_types.specs.Paths.{ContainsItself, is_composition, prototypes_of, type_at, type_in}
 use Rattle.outcome_laws.proofs.Deciding.{as_well, bool_decided, first_found}
 use Rattle.outcome_laws.proofs.Graphs.{Steps, reached, reaches, reaches_all}
 use Rattle.composition_tables.proofs.InItself.{is_it}

@@ -1,28 +1,14 @@
 -- The plan of a description is that of a `BusPlan`: its programs are those of the description.
 use Rattle.std.proofs.Common.{◌≡◌, ℕ, zero, suc, ◌+◌, ◌≤◌, ℤ, List, [], ◌∷◌, ◌++◌, map, length, Bool, true, false, cond, nat_le, Option, Some, None, slice_get, refl, sym, ap, subst, ◌∙◌, arith}
-use Rattle.std.proofs.lemmas.List.{map-append}
-use Rattle.std.specs.Option.{option_map_or, unwrap_or}
-use Rattle.std.specs.Arc.{arc_value}
-use Rattle.runnable_lang.specs.declared.program.Signature.{Signature}
-use Rattle.runnable_lang.specs.Trees.{program_tree}
+use Rattle.bus_semantics.specs.Common.{map-append, option_map_or, unwrap_or, arc_value, Signature, program_tree, Runnable, runnable_of}
 use Rattle.bus_semantics.specs.declared.plan.BusPlan.{BusPlan}
 use Rattle.bus_semantics.specs.declared.plan.ElemPlan.{ElemPlan}
 use Rattle.bus_semantics.specs.declared.plan.RunnablePlan.{RunnablePlan}
-use Rattle.bus_semantics.specs.Plan.{Runnable, runnable_of}
-use Rattle.description_types.specs.declared.component.Component.{Component}
+use Rattle.plan_definitions.specs.Common.{Component, Description, Flat, Instance, IsCoded, AreCoded, Elem, elem_seen, element_of, elements, given_of, group_of, held, type_of, zeros, from}
+use Rattle.plan_definitions.specs.Common.{plan_of, seen, signature, runnables, runnables_of_component, served_by, served_number, target_of, elements_of}
 use Rattle.description_types.specs.declared.component.Runnable as declared
-use Rattle.description_types.specs.declared.description.Description.{Description}
-use Rattle.description_types.specs.declared.flat.Flat.{Flat}
-use Rattle.description_types.specs.declared.flat.Instance.{Instance}
 use Rattle.plan_definitions.specs.declared.site.Site.{Site}
-use Rattle.plan_definitions.specs.Coding.{IsCoded, AreCoded}
-use Rattle.plan_definitions.specs.Elements.{Elem, elem_seen, element_of, elements, given_of, group_of, held, type_of, zeros}
-use Rattle.plan_definitions.specs.Lists.{from}
-use Rattle.plan_definitions.specs.Planned.{plan_of, seen}
-use Rattle.plan_definitions.specs.Signatures.{signature}
 use Rattle.plan_definitions.specs.Started as started
-use Rattle.plan_definitions.specs.Started.{runnables, runnables_of_component, served_by, served_number, target_of}
-use Rattle.plan_definitions.specs.Things.{elements_of}
 use Rattle.plan_definitions.proofs.Coding.{coded_there, one_code}
 use Rattle.outcome_laws.proofs.Values.{arc_of, value_for}
 

@@ -6,8 +6,11 @@ use Rattle.runnable_lang.specs.declared.stmt.Op.{Op}
 use Rattle.runnable_lang.specs.declared.stmt.Expr.{Expr, Const, Var, Bin}
 use Rattle.runnable_lang.specs.declared.stmt.Expr as expr
 use Rattle.runnable_lang.specs.declared.stmt.Stmt as stmt
-use Rattle.runnable_lang.specs.declared.stmt.Stmt.{Stmt, Set, If, Repeat, Area, Invalidate, IsUpdated, Switch, Mode, Write, Read, Send, Receive, IWrite, IRead, IrvWrite, IrvRead, IrvIWrite, IrvIRead, Call, ACall, TakeResult}
-use Rattle.runnable_lang.specs.Trees.{ExprTree, constant, variable, combined, StmtTree, BodyTree, ProgramTree, done, next, sets, chooses, repeats, in_area, invalidates, asks_updated, switches, asks_mode, writes, reads, sends, receives, writes_late, reads_early, writes_variable, reads_variable, writes_variable_late, reads_variable_early, calls, calls_and_goes_on, takes_result, body_tree, expr_tree, exprs, program_tree, stmt_tree}
+use Rattle.runnable_lang.specs.declared.stmt.Stmt.{Stmt, Set, If, Repeat, Area, Invalidate, IsUpdated, Switch, Mode, Write, Read, Send, Receive, IWrite, IRead, IrvWrite, IrvRead, IrvIWrite}
+use Rattle.runnable_lang.specs.declared.stmt.Stmt.{IrvIRead, Call, ACall, TakeResult}
+use Rattle.runnable_lang.specs.Trees.{ExprTree, constant, variable, combined, StmtTree, BodyTree, ProgramTree, done, next, sets, chooses, repeats, in_area, invalidates, asks_updated}
+use Rattle.runnable_lang.specs.Trees.{switches, asks_mode, writes, reads, sends, receives, writes_late, reads_early, writes_variable, reads_variable, writes_variable_late}
+use Rattle.runnable_lang.specs.Trees.{reads_variable_early, calls, calls_and_goes_on, takes_result, body_tree, expr_tree, exprs, program_tree, stmt_tree}
 use Rattle.outcome_laws.proofs.Values.{IsFew, box_of, vec_of}
 
 abbrev pub body_length : BodyTree → ℕ

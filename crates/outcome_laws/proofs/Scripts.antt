@@ -1,17 +1,11 @@
 -- Bytes are a script over a plan, or have a first bad line.
 use Rattle.std.proofs.Common.{◌≡◌, ℕ, ℤ, ◌≤◌, List, [], ◌∷◌, ◌++◌, map, length, Bool, true, false, cond, ◌==◌, nat_le, Option, Some, None, ◌⊎◌, inl, inr, refl, sym, ap, true≢false, arith}
-use Rattle.std.proofs.lemmas.Bool.{and_parts}
-use Rattle.std.specs.List.{list_all}
+use Rattle.bus_semantics.specs.Common.{and_parts, list_all, Plan, look, Letters, to_ask, to_send, to_write, Value, words_of}
 use Rattle.bus_semantics.specs.declared.entries.Wish.TheVariants as wish
 use Rattle.bus_semantics.specs.declared.plan.ElemPlan.{ElemPlan}
 use Rattle.bus_semantics.specs.declared.plan.PointPlan.{PointPlan}
 use Rattle.bus_semantics.specs.declared.script.Line.{Line}
 use Rattle.bus_semantics.specs.declared.script.Line.TheVariants as line
-use Rattle.bus_semantics.specs.Plan.{Plan, look}
-use Rattle.bus_semantics.specs.Spelling.{Letters}
-use Rattle.bus_semantics.specs.Wanted.{to_ask, to_send, to_write}
-use Rattle.rte_value.specs.declared.value.Value.{Value}
-use Rattle.rte_value.specs.Values.{words_of}
 use Rattle.line_fields.specs.Numbers.{are_held, is_held, words_in}
 use Rattle.line_fields.specs.Texts.{lines_of}
 use Rattle.script_reading.specs.declared.forms.Follows.{Follows}
@@ -19,7 +13,8 @@ use Rattle.script_reading.specs.declared.forms.Follows.TheVariants as follow
 use Rattle.script_reading.specs.declared.forms.Form.{Form}
 use Rattle.script_reading.specs.declared.forms.Form.TheVariants.{Write, Send, Read, Receive, Ask, TakeResult, SeeMode}
 use Rattle.script_reading.specs.Forms.{Phrase, behind, phrase_in, to_call, to_run, to_wait}
-use Rattle.script_reading.specs.Meaning.{Asked, Saying, a_call, asked_of, asks, call_at, call_with, is_bad, meaning, meaning_in, named_call, no_such, not_of_type, nothing, plain_call, saying, switch_call, value_call}
+use Rattle.script_reading.specs.Meaning.{Asked, Saying, a_call, asked_of, asks, call_at, call_with, is_bad, meaning, meaning_in, named_call, no_such, not_of_type, nothing, plain_call}
+use Rattle.script_reading.specs.Meaning.{saying, switch_call, value_call}
 use Rattle.script_reading.specs.Offers.{are_within, elem_takes, mode_of, number_of, takes}
 use Rattle.script_reading.specs.Reading.{asked_by, asked_in, first_bad}
 use Rattle.script_reading.specs.Reserved.{around, is_reserved, saying_around}

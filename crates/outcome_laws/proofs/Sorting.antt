@@ -1,15 +1,11 @@
 -- A list has a strictly sorted one with the same members, and joins have an order.
 use Rattle.std.proofs.Common.{◌≡◌, ℕ, List, [], ◌∷◌, Option, Some, None, ◌⊎◌, inl, inr, ⊎_elim, ◌↔◌, refl, sym, ap, subst, ◌∙◌, arith, Ordering, Less, Equal, Greater}
-use Rattle.std.proofs.lemmas.Bool.{eqb-true}
+use Rattle.bus_semantics.specs.Common.{eqb-true, AllByRecursion}
 use Rattle.std.proofs.lemmas.Cmp.{nat_cmp_total, on_total, then_total, tied_itself}
 use Rattle.std.specs.Cmp.{IsTotalOrder, unsigned_ties}
-use Rattle.std.specs.List.{AllByRecursion}
 use Rattle.std.specs.List.Sorted.{IsStrictlySortedBy}
 use Rattle.std.specs.Ordering.{is_eq, nat_cmp, ordering_reverse, ordering_then}
-use Rattle.description_types.specs.declared.flat.End.{End}
-use Rattle.description_types.specs.declared.flat.Join.{Join}
-use Rattle.description_types.specs.Members.{AllApart, Among}
-use Rattle.description_types.specs.Orders.{end_order, instance_order, join_order}
+use Rattle.plan_definitions.specs.Common.{End, Join, AllApart, Among, end_order, instance_order, join_order}
 use Rattle.composition_tables.proofs.SameLinks.{then_equal}
 
 -- ---- by an order that tells different things apart

@@ -1,21 +1,11 @@
 -- Whether two items are joined is decided.
 use Rattle.std.proofs.Common.{◌≡◌, ℕ, List, [], ◌∷◌, slice_get, true, Option, Some, None, refl, sym, ap, subst, ◌∙◌}
 use Rattle.std.proofs.lemmas.Option.{same_Some}
-use Rattle.description_types.specs.declared.component.PortKind.{PortKind}
-use Rattle.description_types.specs.declared.component.PortKind.TheVariants.{Provided, Required}
-use Rattle.description_types.specs.declared.description.Connector.{Connector}
-use Rattle.description_types.specs.declared.description.Connector.TheVariants.{Assembly, Delegation}
-use Rattle.description_types.specs.declared.description.Description.{Description}
-use Rattle.description_types.specs.declared.description.PrototypeType.{PrototypeType}
+use Rattle.plan_definitions.specs.Common.{PortKind, Provided, Required, Connector, Assembly, Delegation, Description, PrototypeType, InterfaceKind, SenderReceiver, ClientServer, ModeSwitch}
+use Rattle.plan_definitions.specs.Common.{Join, connectors_of, lets_join, IsSameName, ItemsJoin, element_names, operation_names, Assembles, Delegates, IsChain, IsJoined, IsOutside, Stand}
+use Rattle.plan_definitions.specs.Common.{StandsJoin, interface_below, stand_in, Among, type_at}
 use Rattle.description_types.specs.declared.description.PrototypeType.TheVariants.{Component, Composition}
-use Rattle.description_types.specs.declared.interface.InterfaceKind.{InterfaceKind}
-use Rattle.description_types.specs.declared.interface.InterfaceKind.TheVariants.{SenderReceiver, ClientServer, ModeSwitch}
-use Rattle.description_types.specs.declared.flat.Join.{Join}
-use Rattle.description_types.specs.Connectors.{connectors_of, kind_of, lets_join}
-use Rattle.description_types.specs.Items.{IsSameName, ItemsJoin, element_names, operation_names}
-use Rattle.description_types.specs.Joined.{Assembles, Delegates, IsChain, IsJoined, IsOutside, Stand, StandsJoin, interface_below, stand_in}
-use Rattle.description_types.specs.Members.{Among}
-use Rattle.description_types.specs.Paths.{type_at}
+use Rattle.description_types.specs.Connectors.{kind_of}
 use Rattle.outcome_laws.proofs.Deciding.{among_decided, as_well, bool_decided, both, connector_decided, either, list_decided, nat_decided, some_of}
 use Rattle.outcome_laws.proofs.Ups.{below_ups, ups, ups_below}
 

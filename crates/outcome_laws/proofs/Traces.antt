@@ -1,16 +1,10 @@
 -- No trace is without a verdict.
 use Rattle.std.proofs.Common.{◌≡◌, ℕ, zero, suc, ◌≤◌, List, [], ◌∷◌, ◌++◌, length, codes, true, Option, Some, None, inl, inr, refl, sym, ap, subst, ◌∙◌, append_assoc, length-append, arith}
-use Rattle.std.proofs.lemmas.Bool.{and_from}
-use Rattle.std.proofs.lemmas.List.{append-nil}
-use Rattle.std.specs.List.{list_all}
+use Rattle.bus_semantics.specs.Common.{and_from, append-nil, list_all, broken_clause, Plan, item_fits, Closing, IsBeginningOf, Item, Session, history_of, idle, made, orders_of_script}
+use Rattle.bus_semantics.specs.Common.{run_begins, run_closes, unsettled, Letters, actor_text, closing_text, deed_text, header, item_text, spaced, spelling_of}
 use Rattle.bus_semantics.specs.declared.script.Line.{Line}
 use Rattle.bus_semantics.specs.declared.script.Mapping.{Mapping}
 use Rattle.bus_semantics.specs.declared.version.Version.{Version}
-use Rattle.bus_semantics.specs.Legal.{broken_clause}
-use Rattle.bus_semantics.specs.Plan.{Plan}
-use Rattle.bus_semantics.specs.Reading.{item_fits}
-use Rattle.bus_semantics.specs.Run.{Closing, IsBeginningOf, Item, Session, history_of, idle, made, orders_of_script, run_begins, run_closes, unsettled}
-use Rattle.bus_semantics.specs.Spelling.{Letters, actor_text, closing_text, deed_text, header, item_text, spaced, spelling_of}
 use Rattle.trace_reading.specs.declared.checked.Checked.{Checked}
 use Rattle.trace_reading.specs.declared.checked.Checked.TheVariants.{BadLine, Illegal, Legal}
 use Rattle.trace_reading.specs.Refusals.{IsAccepted, IsRefused}

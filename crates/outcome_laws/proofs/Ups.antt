@@ -1,18 +1,9 @@
 -- The stands above a stand: those from which delegations alone lead down to it.
 use Rattle.std.proofs.Common.{◌≡◌, ℕ, List, [], ◌∷◌, Bool, true, false, ◌&&◌, cond, nat_eq, Option, Some, None, inl, inr, refl, sym, ap, subst, ◌∙◌}
-use Rattle.std.proofs.lemmas.Bool.{eqb-true, eq-eqb, and_parts, and_from}
-use Rattle.std.specs.List.{flat_map}
-use Rattle.description_types.specs.declared.description.Connector.{Connector}
-use Rattle.description_types.specs.declared.description.Connector.TheVariants.{Assembly, Delegation}
-use Rattle.description_types.specs.declared.description.Description.{Description}
-use Rattle.description_types.specs.declared.description.InnerPort.{InnerPort}
-use Rattle.description_types.specs.declared.description.PrototypeType.{PrototypeType}
+use Rattle.bus_semantics.specs.Common.{eqb-true, eq-eqb, and_parts, and_from, flat_map}
+use Rattle.plan_definitions.specs.Common.{Connector, Assembly, Delegation, Description, InnerPort, PrototypeType, connectors_of, lets_join, Delegates, IsBelow, Stand, itself, further, Among}
+use Rattle.plan_definitions.specs.Common.{type_at}
 use Rattle.description_types.specs.declared.description.PrototypeType.TheVariants.{Component, Composition}
-use Rattle.description_types.specs.Connectors.{connectors_of, lets_join}
-use Rattle.description_types.specs.Joined.{Delegates, IsBelow, Stand}
-use Rattle.description_types.specs.Joined.IsBelow.{itself, further}
-use Rattle.description_types.specs.Members.{Among}
-use Rattle.description_types.specs.Paths.{type_at}
 use Rattle.composition_tables.proofs.Members.{flat, unflat}
 
 module _ (d : Description) where

@@ -1,12 +1,9 @@
 -- Values that hold others: a list of fewer than 2^63 items is that of a `Vec`, each value that of a `Box` and that of an `Arc`, and a list
 -- of at most 16 words that of a `Value`. Where they lie in memory tells nothing to any clause.
 use Rattle.std.proofs.Common.{◌≡◌, ℤ, pos, ◌-◌, ◌<◌, ◌≤◌, ◌^◌, List, [], ◌∷◌, ◌++◌, length, replicate, take, refl, sym, ap, arith}
-use Rattle.std.specs.Arc.{arc_value}
-use Rattle.std.specs.Global.{Box, Global, Vec}
+use Rattle.bus_semantics.specs.Common.{arc_value, Global, Value, padded, words_of}
+use Rattle.std.specs.Global.{Box, Vec}
 use Rattle.std.specs.declared.sync.Arc.{Arc}
-use Rattle.rte_value.specs.declared.value.Value.{Value}
-use Rattle.rte_value.specs.Padding.{padded}
-use Rattle.rte_value.specs.Values.{words_of}
 use denote.RawPtr.{null_ptr}
 
 abbrev pub IsFew : {X : Type 0} → List X → Type 0

@@ -1,17 +1,8 @@
 -- The tasks have an order, or one waits for itself (rule 29).
 use Rattle.std.proofs.Common.{◌≡◌, ℕ, zero, suc, ◌+◌, List, [], ◌∷◌, ◌++◌, map, filter, Bool, true, false, cond, nat_eq, Option, Some, None, ◌⊎◌, inl, inr, ⊎_elim, refl, sym, subst, true≢false}
-use Rattle.std.proofs.lemmas.Bool.{eqb-true, or_cases, or_left, or_right}
-use Rattle.std.specs.List.{list_any}
-use Rattle.std.specs.Option.{option_map_or}
-use Rattle.description_types.specs.declared.component.Component.{Component}
-use Rattle.description_types.specs.declared.component.Event.{Event}
-use Rattle.description_types.specs.declared.description.Description.{Description}
-use Rattle.description_types.specs.declared.description.MappedEvent.{MappedEvent}
-use Rattle.description_types.specs.declared.flat.Flat.{Flat}
-use Rattle.description_types.specs.Members.{Among}
-use Rattle.plan_definitions.specs.Mapped.{names}
-use Rattle.plan_definitions.specs.MappingRules.{Chain, HaveOrder, ReachesItself, Waits, tasks_from, tasks_of, tasks_of_event}
-use Rattle.plan_definitions.specs.Parts.{component_of}
+use Rattle.bus_semantics.specs.Common.{eqb-true, or_cases, or_left, or_right, list_any, option_map_or}
+use Rattle.plan_definitions.specs.Common.{Component, Event, Description, MappedEvent, Flat, Among, names, Chain, HaveOrder, ReachesItself, Waits, tasks_from, tasks_of, tasks_of_event}
+use Rattle.plan_definitions.specs.Common.{component_of}
 use Rattle.mapping_rules.proofs.Reached.{found_wait, wait_found}
 use Rattle.mapping_rules.specs.Waiting.{has_wait}
 use Rattle.outcome_laws.proofs.Graphs.{Steps, circle_or_order}

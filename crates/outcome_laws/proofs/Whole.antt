@@ -10,25 +10,16 @@ use Rattle.bus_semantics.specs.declared.plan.BusPlan.{BusPlan}
 use Rattle.bus_semantics.specs.declared.script.Mapping.{Mapping}
 use Rattle.bus_semantics.specs.Plan as bus
 use Rattle.bus_semantics.specs.Sound.{IsSound}
-use Rattle.description_types.specs.declared.description.Description.{Description}
+use Rattle.plan_definitions.specs.Common.{Description, Flat, IsFlatOf, IsAfter, IsOfTasks, mapping_text, HaveOrder, ReachesItself, IsOfLists, IsOfSize, IsRefusal, IsThen, plan_of, seen}
+use Rattle.plan_definitions.specs.Common.{is_too_large, mapping_of, IsWellFormed, IsWhole}
 use Rattle.declared_names.proofs.Reading.{short_few}
 use Rattle.description_places.specs.Rules.{Reads}
 use Rattle.component_model.specs.Descriptions.{description_of, reading}
 use Rattle.component_model.specs.Refusals.{IsRead, refusal}
-use Rattle.description_types.specs.declared.flat.Flat.{Flat}
-use Rattle.description_types.specs.Flattening.{IsFlatOf}
 use Rattle.plan_definitions.specs.declared.component_rule.ComponentRule.TheVariants as rule
 use Rattle.plan_definitions.specs.ComponentRefusals as components
 use Rattle.plan_definitions.specs.JoinRefusals as joins
 use Rattle.plan_definitions.specs.MappingRefusals as mapping
-use Rattle.plan_definitions.specs.MappingRefusals.{IsAfter, IsOfTasks, mapping_text}
-use Rattle.plan_definitions.specs.MappingRules.{HaveOrder, ReachesItself}
-use Rattle.plan_definitions.specs.PlanRefusals.{IsOfLists, IsOfSize, IsRefusal, IsThen}
-use Rattle.plan_definitions.specs.Planned.{plan_of, seen}
-use Rattle.plan_definitions.specs.PlanRules.{is_too_large}
-use Rattle.plan_definitions.specs.Tasks.{mapping_of}
-use Rattle.plan_definitions.specs.WellFormed.{IsWellFormed}
-use Rattle.plan_definitions.specs.Whole.{IsWhole}
 use Rattle.mapping_rules.proofs.Reached.{never_reaches}
 use Rattle.outcome_laws.specs.Flattened as flat
 use Rattle.outcome_laws.specs.Outcomes.{HasPlan, HasRefusal}

@@ -1,9 +1,7 @@
 -- What a description comes to: it is made flat, or it is refused.
 use Rattle.rte_text.specs.declared.refusal.Refusal.{Refusal}
 use Rattle.rte_text.specs.declared.refusal.Refused.TheVariants.{Rule}
-use Rattle.description_types.specs.declared.description.Description.{Description}
-use Rattle.description_types.specs.declared.flat.Flat.{Flat}
-use Rattle.description_types.specs.Flattening.{IsFlatOf, IsRefusalOf}
+use Rattle.plan_definitions.specs.Common.{Description, Flat, IsFlatOf, IsRefusalOf}
 
 abbrev pub HasFlat : Description → Type 0
 HasFlat d = (f : Flat) × IsFlatOf d f

@@ -4,8 +4,7 @@ ghost use Rattle.std.specs.Prelude.{◌≤◌, ◌⊎◌, ℕ, List, Bool, lengt
 ghost use Rattle.bus_semantics.specs.declared.script.Line.{Line};
 ghost use Rattle.bus_semantics.specs.declared.script.Mapping.{Mapping};
 ghost use Rattle.bus_semantics.specs.Plan.{Plan};
-ghost use Rattle.script_reading.specs.Meaning.{saying};
-ghost use Rattle.script_reading.specs.Reserved.{saying_around};
+ghost use Rattle.script_reading.specs.Common.{saying, saying_around};
 ghost use Rattle.outcome_laws.specs.Outcomes.{HasBadLine, HasPlan, HasRefusal, HasScript, HasVerdict};
 
 use crate::flat::descriptions_are_made_flat_or_refused;

@@ -2,12 +2,10 @@
 use Rattle.std.proofs.Common.{◌≡◌, ◌≢◌, ℕ, true, List, [], ◌∷◌, ◌++◌, Option, refl, sym, subst, append_assoc, append-nil}
 use Rattle.rte_text.specs.Sinks.{AppendsWhereTold, AppendsPrefixWhereTold}
 use Rattle.rte_text.specs.Told.{appends_both, appends_none, prefix_after, prefix_whole}
-use Rattle.bus_semantics.specs.declared.script.Line.{Line}
-use Rattle.bus_semantics.specs.declared.script.Mapping.{Mapping}
-use Rattle.bus_semantics.specs.Legal.{IsLegal}
-use Rattle.bus_semantics.specs.Plan.{Plan, plan_of}
-use Rattle.bus_semantics.specs.Run.{IsLegalRun, Ordered, Session, history_of, orders_of_script}
-use Rattle.pair_run.specs.Sent.{EnvironmentKeepsLimits}
+use Rattle.bus_laws.specs.Common.{Line, Mapping}
+use Rattle.bus_semantics.specs.Common.{IsLegal, Plan, plan_of, IsLegalRun, Ordered, Session, history_of, orders_of_script}
+use Rattle.pair_run.specs.Common.{EnvironmentKeepsLimits, PairRun, Finished, Failed, LinkFailed, Memory, Then, Did, Joint, one, two, side_of, all_on, joint_lines, StandBoth, CutsBoth}
+use Rattle.pair_run.specs.Common.{CarryBoth, came_of, Writes}
 use Rattle.core_runtime.specs.Nodes.{NodeState}
 use Rattle.script_run.specs.declared.script.ScriptRun.{ScriptRun}
 use Rattle.script_run.specs.declared.script.ScriptRun.TheVariants as run
@@ -15,11 +13,7 @@ use Rattle.script_run.specs.declared.writing.Writing.{Writing}
 use Rattle.script_run.specs.Standing.{StandsIn, IsCut, Carries, Place, outside}
 use Rattle.script_run.proofs.Added.{added_is_session, cut_is_beginning}
 use Rattle.script_run.proofs.Sessions.{run_from_nothing}
-use Rattle.pair_run.specs.declared.pair.PairRun.{PairRun}
-use Rattle.pair_run.specs.declared.pair.PairRun.TheVariants.{Finished, Failed, LinkFailed, Memory}
-use Rattle.pair_run.specs.Crossing.{Then, Did}
-use Rattle.pair_run.specs.Joint.{Joint, one, two, side_of, all_on, joint_lines}
-use Rattle.pair_run.specs.Standing.{StandsOn, StandBoth, AddsBoth, CutsBoth, GoOn, CarryBoth, came_of, Writes}
+use Rattle.pair_run.specs.Standing.{StandsOn, AddsBoth, GoOn}
 use Rattle.pair_run.proofs.Completing.{CanDoAll, MayCome, completes}
 use Rattle.pair_run.proofs.Joints.{all-append, one-behind, one-beside, two-behind, two-beside, lines-append, lines-all, then_both}
 use Rattle.pair_run.proofs.Limits.{orders_keep, keeps_onto, session_keeps}

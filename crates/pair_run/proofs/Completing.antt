@@ -1,26 +1,15 @@
 -- What was begun may go on to its end: a session of a script, what crosses, and a joint session.
-use Rattle.std.proofs.Common.{◌≡◌, ◌<◌, ℕ, zero, suc, ◌+◌, Bool, true, false, pos, List, [], ◌∷◌, ◌++◌, length, get_or, take, drop, replicate, inl, refl, sym, ap, ◌∙◌, subst, append_assoc, append-nil, drop-cons, arith}
-use Rattle.std.specs.List.{All, AllByRecursion}
-use Rattle.std.proofs.lemmas.Bool.{false≢true}
-use Rattle.std.proofs.lemmas.List.{take_more, take-append-drop}
-use Rattle.std.proofs.lemmas.List.Elements.{All-head, All-tail}
-use Rattle.rte_value.specs.declared.value.Value.{Value}
-use Rattle.bus_semantics.specs.declared.entries.Actor.TheVariants.{Env}
-use Rattle.bus_semantics.specs.declared.entries.Deed.{Deed}
+use Rattle.std.proofs.Common.{◌≡◌, ◌<◌, ℕ, zero, suc, ◌+◌, Bool, true, false, pos, List, [], ◌∷◌, ◌++◌, length, get_or, take, drop, replicate, inl, refl, sym, ap, ◌∙◌, subst, append_assoc}
+use Rattle.std.proofs.Common.{append-nil, drop-cons, arith}
+use Rattle.bus_semantics.specs.Common.{All, AllByRecursion, false≢true, take_more, take-append-drop, All-head, All-tail, Value, wish_fits, Plan, Session, made, run_begins, run_closes, idle}
+use Rattle.bus_semantics.specs.Common.{Ordered, a_run, a_call, orders_of, orders_of_script, is_inside, is_placed, IsSessionOf, IsBeginningOf, Wanted, to_tick, wanted_by, wanted_of}
+use Rattle.bus_laws.specs.Common.{Env, Deed, Entry, Wish, Line}
 use Rattle.bus_semantics.specs.declared.entries.Deed.TheVariants as deed
-use Rattle.bus_semantics.specs.declared.entries.Entry.{Entry}
-use Rattle.bus_semantics.specs.declared.entries.Wish.{Wish}
 use Rattle.bus_semantics.specs.declared.entries.Wish.TheVariants as wish
-use Rattle.bus_semantics.specs.declared.script.Line.{Line}
 use Rattle.bus_semantics.specs.declared.script.Line.TheVariants as line
-use Rattle.bus_semantics.specs.Fitting.{wish_fits}
-use Rattle.bus_semantics.specs.Plan.{Plan}
-use Rattle.bus_semantics.specs.Run.{Session, made, run_begins, run_closes, idle, Ordered, a_run, a_call, orders_of, orders_of_script, is_inside, is_placed, IsSessionOf, IsBeginningOf}
-use Rattle.bus_semantics.specs.Wanted.{Wanted, to_tick, wanted_by, wanted_of}
 use Rattle.script_reading.specs.Carried.{IsCarriable}
 use Rattle.signal_link.specs.declared.link_elem.LinkElem.{LinkElem}
-use Rattle.pair_run.specs.Crossing.{Then, InOrder, Sends, FindsNone, Drains, Crosses, Did, Makes, Follows}
-use Rattle.pair_run.specs.Joint.{Joint, Side, one, two, all_on}
+use Rattle.pair_run.specs.Common.{Then, InOrder, Sends, FindsNone, Drains, Crosses, Did, Makes, Follows, Joint, Side, one, two, all_on}
 use Rattle.pair_run.proofs.Joints.{then_both}
 
 -- ---- orders

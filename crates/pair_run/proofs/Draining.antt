@@ -1,15 +1,10 @@
 -- A link is drained: values pass until none is held.
 use Rattle.std.proofs.Common.{◌≡◌, ◌≢◌, ◌<◌, ℕ, suc, ◌+◌, true, List, ◌++◌, Option, Some, None, sym, ap, ◌∙◌, subst, arith}
-use Rattle.std.specs.List.{slice_get}
-use Rattle.std.proofs.lemmas.Option.{same_Some}
+use Rattle.bus_semantics.specs.Common.{slice_get, same_Some, Value, words_of, Plan, plan_of, to_receive, to_send}
 use Rattle.rte_text.specs.declared.sink.Put.{Put}
 use Rattle.rte_text.specs.declared.sink.Put.TheVariants as putting
-use Rattle.rte_value.specs.declared.value.Value.{Value}
-use Rattle.rte_value.specs.Values.{words_of}
 use Rattle.bus_semantics.specs.declared.entries.Entry.{Entry}
-use Rattle.bus_semantics.specs.Plan.{Plan, plan_of}
-use Rattle.pair_run.specs.Sent.{takes}
-use Rattle.bus_semantics.specs.Wanted.{to_receive, to_send}
+use Rattle.pair_run.specs.Common.{takes, PairRun, Finished, Failed, Then, Takes, Sends, Passes, Passed, FindsNone, Drains, held_in, one, two, side_of, CarryBoth, Stand, Writes}
 use Rattle.core_runtime.specs.Nodes.{NodeState}
 use Rattle.script_run.specs.declared.writing.Writing.{Writing}
 use Rattle.script_run.specs.Standing.{Calls, outside}
@@ -17,11 +12,6 @@ use Rattle.signal_link.specs.declared.link_elem.LinkElem.{LinkElem}
 use Rattle.signal_link.specs.declared.carrying.Arrived.{Arrived}
 use Rattle.signal_link.specs.Carrying.{IsCarried}
 use Rattle.signal_link.specs.Unframing.{Kept}
-use Rattle.pair_run.specs.declared.pair.PairRun.{PairRun}
-use Rattle.pair_run.specs.declared.pair.PairRun.TheVariants.{Finished, Failed}
-use Rattle.pair_run.specs.Crossing.{Then, Takes, Sends, Passes, Passed, FindsNone, Drains, held_in}
-use Rattle.pair_run.specs.Joint.{one, two, side_of}
-use Rattle.pair_run.specs.Standing.{CarryBoth, Stand, Writes}
 use Rattle.pair_run.proofs.Carrying.{legal_now, then_cut, then_goes, widened}
 use Rattle.pair_run.proofs.Completing.{none_may}
 use Rattle.pair_run.proofs.Receiving.{drains_more, drains_on, few_pass, none_carries, receive_cut, send_carries, send_cut, take_carries, taken_is_within}

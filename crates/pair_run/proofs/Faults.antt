@@ -4,10 +4,9 @@ use Rattle.signal_link.specs.Unframing.{Kept}
 use Rattle.script_run.specs.declared.script.ScriptRun.{ScriptRun}
 use Rattle.script_run.specs.declared.script.ScriptRun.TheVariants as run
 use Rattle.script_run.specs.Running.{FaultsAfter}
-use Rattle.pair_run.specs.declared.pair.PairRun.{PairRun}
-use Rattle.pair_run.specs.declared.pair.PairRun.TheVariants.{Finished, Failed, LinkFailed, Memory}
-use Rattle.pair_run.specs.Running.{SinkFaultsAfter, LinkFaultsAfter}
-use Rattle.pair_run.specs.Standing.{LinkAfter, came_of}
+use Rattle.pair_run.specs.Common.{PairRun, Finished, Failed, LinkFailed, Memory, SinkFaultsAfter, came_of}
+use Rattle.pair_run.specs.Running.{LinkFaultsAfter}
+use Rattle.pair_run.specs.Standing.{LinkAfter}
 
 pub sink_came : (r : ScriptRun) (before after : ℕ) → FaultsAfter r before after → SinkFaultsAfter (came_of r) before after
 sink_came run.Finished before after h = h

@@ -1,19 +1,11 @@
 -- What is stored last in a group is the last value that its elements were given.
 use Rattle.std.proofs.Common.{◌≡◌, ℕ, zero, suc, ◌/◌, ◌%◌, ℤ, Bool, true, false, ◌||◌, ◌==◌, if◌then◌else◌, refl, sym, ◌∙◌, ap, append_assoc, append-nil, List, [], ◌∷◌, ◌++◌, drop, Option, Some, None}
-use Rattle.std.proofs.lemmas.Bool.{or_from, or_left, or_right, eqb-true, eq-eqb, false≢true}
-use Rattle.std.proofs.lemmas.Option.{same_Some}
-use Rattle.std.proofs.lemmas.List.Folds.{list_any-append}
+use Rattle.bus_semantics.specs.Common.{or_from, or_left, or_right, eqb-true, eq-eqb, false≢true, same_Some, list_any-append, slice_get, option_or, Plan, group_of, words_at, marked, split}
+use Rattle.bus_semantics.specs.Common.{History, noted, is_in_group, last_in, stored_in, last_stored}
 use Rattle.std.proofs.lemmas.Nat.Bits.{bit_at_lowest, bit_at-suc}
 use Rattle.std.specs.Int.{bit_at}
-use Rattle.std.specs.List.{slice_get}
-use Rattle.std.specs.Option.{option_or}
-use Rattle.bus_semantics.specs.declared.entries.Deed.{Deed}
+use Rattle.bus_laws.specs.Common.{Deed, Entry}
 use Rattle.bus_semantics.specs.declared.entries.Deed.TheVariants as deed
-use Rattle.bus_semantics.specs.declared.entries.Entry.{Entry}
-use Rattle.bus_semantics.specs.Plan.{Plan, group_of}
-use Rattle.bus_semantics.specs.Lists.{words_at, marked, split}
-use Rattle.bus_semantics.specs.History.{History, noted}
-use Rattle.bus_semantics.specs.Unqueued.{is_in_group, last_in, stored_in, last_stored}
 use Rattle.bus_laws.proofs.Thinning.{clash, option_same, option_test}
 use Rattle.bus_laws.proofs.OneBundle.{has}
 use Rattle.pair_run.specs.Given.{gives, given_in, reaches, IsLastGiven}

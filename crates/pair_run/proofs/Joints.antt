@@ -1,14 +1,11 @@
 -- Joint sessions, one behind the other: what is of each side, and their lines.
 use Rattle.std.proofs.Common.{◌≡◌, Bool, true, false, cond, [], ◌∷◌, ◌++◌, refl, sym, ap, ◌∙◌, append_assoc, append-nil}
 use Rattle.bus_semantics.specs.declared.version.Version.TheVariants as version
-use Rattle.bus_semantics.specs.Plan.{Plan}
-use Rattle.bus_semantics.specs.Run.{Session}
-use Rattle.bus_semantics.specs.Spelling.{item_text}
+use Rattle.bus_semantics.specs.Common.{Plan, Session, item_text}
 use Rattle.script_run.specs.declared.writing.Writing.{Writing}
 use Rattle.script_run.specs.Texts.{lines_of}
-use Rattle.pair_run.specs.Crossing.{Then}
-use Rattle.pair_run.specs.Joint.{Joint, Side, one, two, same_side, side_of, all_on, prefix_of, plan_at, joint_lines}
-use Rattle.pair_run.specs.Standing.{Writes}
+use Rattle.pair_run.specs.Common.{Then, Joint, Side, one, two, side_of, all_on, prefix_of, joint_lines, Writes}
+use Rattle.pair_run.specs.Joint.{same_side, plan_at}
 
 pub side-append : (k : Side) (a b : Joint) → side_of k (a ++ b) ≡ side_of k a ++ side_of k b
 side-append k [] b = refl

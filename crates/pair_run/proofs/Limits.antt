@@ -1,18 +1,10 @@
 -- What the environment does by orders that keep the limits of a plan keeps them too.
 use Rattle.std.proofs.Common.{◌≡◌, ℕ, zero, suc, Bool, true, List, [], ◌∷◌, ◌++◌, replicate, refl, sym, ap, ◌∙◌}
-use Rattle.std.specs.List.{list_all}
-use Rattle.std.proofs.lemmas.Bool.{and_from, and_parts}
-use Rattle.std.proofs.lemmas.List.Folds.{list_all-append}
-use Rattle.bus_semantics.specs.declared.entries.Actor.{Actor}
-use Rattle.bus_semantics.specs.declared.entries.Actor.TheVariants.{Env}
-use Rattle.bus_semantics.specs.declared.entries.Deed.{Deed}
+use Rattle.bus_semantics.specs.Common.{list_all, and_from, and_parts, list_all-append, History, Plan, Session, made, run_begins, run_closes, history_of, Ordered, a_run, a_call, orders_of}
+use Rattle.bus_semantics.specs.Common.{orders_of_entry, orders_of_script, to_tick}
+use Rattle.bus_laws.specs.Common.{Actor, Env, Deed, Entry}
 use Rattle.bus_semantics.specs.declared.entries.Deed.TheVariants as deed
-use Rattle.bus_semantics.specs.declared.entries.Entry.{Entry}
 use Rattle.bus_semantics.specs.declared.script.Line.TheVariants as line
-use Rattle.bus_semantics.specs.History.{History}
-use Rattle.bus_semantics.specs.Plan.{Plan}
-use Rattle.bus_semantics.specs.Run.{Session, made, run_begins, run_closes, history_of, Ordered, a_run, a_call, orders_of, orders_of_entry, orders_of_script}
-use Rattle.bus_semantics.specs.Wanted.{to_tick}
 use Rattle.script_reading.specs.Meaning as asked
 use Rattle.pair_run.specs.Sent.{EnvironmentKeepsLimits, keeps_limits}
 use Rattle.pair_run.specs.Running as pair

@@ -1,19 +1,10 @@
 -- What a line of the script adds to a joint session.
 use Rattle.std.proofs.Common.{◌≡◌, ◌≢◌, ◌<◌, ◌≤◌, ℕ, suc, ◌+◌, true, List, [], ◌∷◌, length, get_or, take, drop, replicate, Option, refl, sym, subst, append-nil}
-use Rattle.std.specs.List.{All}
-use Rattle.std.proofs.lemmas.Bool.{and_from}
-use Rattle.std.proofs.lemmas.List.{take_all}
+use Rattle.bus_semantics.specs.Common.{All, and_from, take_all, wish_fits, Plan, plan_of, Ordered, a_run, a_call, to_tick, wanted_of}
 use Rattle.std.proofs.lemmas.List.Elements.{All-drop}
 use Rattle.rte_text.specs.declared.sink.Put.{Put}
-use Rattle.bus_semantics.specs.declared.entries.Actor.TheVariants.{Env}
-use Rattle.bus_semantics.specs.declared.entries.Entry.{Entry}
-use Rattle.bus_semantics.specs.declared.entries.Wish.{Wish}
-use Rattle.bus_semantics.specs.declared.script.Line.{Line}
+use Rattle.bus_laws.specs.Common.{Env, Entry, Wish, Line}
 use Rattle.bus_semantics.specs.declared.script.Line.TheVariants as line
-use Rattle.bus_semantics.specs.Fitting.{wish_fits}
-use Rattle.bus_semantics.specs.Plan.{Plan, plan_of}
-use Rattle.bus_semantics.specs.Run.{Ordered, a_run, a_call}
-use Rattle.bus_semantics.specs.Wanted.{to_tick, wanted_of}
 use Rattle.core_runtime.specs.Nodes.{NodeState}
 use Rattle.script_reading.specs.Meaning as asked
 use Rattle.script_run.specs.declared.script.ScriptRun.{ScriptRun}
@@ -22,13 +13,8 @@ use Rattle.script_run.specs.Standing as script
 use Rattle.script_run.specs.Standing.{Calls, Carries, outside}
 use Rattle.script_run.proofs.Sessions.{call_carries}
 use Rattle.signal_link.specs.declared.link_elem.LinkElem.{LinkElem}
-use Rattle.pair_run.specs.declared.pair.PairRun.{PairRun}
-use Rattle.pair_run.specs.declared.pair.PairRun.TheVariants.{Finished}
-use Rattle.pair_run.specs.Crossing.{Then, InOrder, Crosses, Did, Follows, Makes}
-use Rattle.pair_run.specs.Joint.{Joint, one, two}
+use Rattle.pair_run.specs.Common.{PairRun, Finished, Then, InOrder, Crosses, Did, Follows, Makes, Joint, one, two, IsPairLine, CarryBoth, came_of, Writes}
 use Rattle.pair_run.specs.Running as pair
-use Rattle.pair_run.specs.Running.{IsPairLine}
-use Rattle.pair_run.specs.Standing.{CarryBoth, came_of, Writes}
 use Rattle.pair_run.proofs.Carrying.{one_carries, then_cut, then_goes, two_carries, widened}
 use Rattle.pair_run.proofs.Completing.{MayCome, call_can, crosses_may, did_may, follows_may, in_order_next, in_order_whole, run_can, then_may, tick_can}
 use Rattle.pair_run.proofs.Limits.{tick_keeps}

@@ -1,27 +1,12 @@
 -- What is linked: each link's two elements, and the values that go over it.
-use Rattle.std.proofs.Common.{◌≡◌, ◌<◌, ◌≤◌, ℕ, zero, suc, ◌+◌, ℤ, Bool, true, false, not, ◌&&◌, ◌==◌, cond, int_le, List, [], ◌∷◌, ◌++◌, length, get_or, drop, Option, Some, None, inl, inr, refl, sym, ap, ◌∙◌, subst, append_assoc, append-nil, drop-cons, arith}
+use Rattle.std.proofs.Common.{◌≡◌, ◌<◌, ◌≤◌, ℕ, zero, suc, ◌+◌, ℤ, Bool, true, false, not, ◌&&◌, ◌==◌, cond, int_le, List, [], ◌∷◌, ◌++◌, length, get_or, drop, Option, Some, None, inl, inr}
+use Rattle.std.proofs.Common.{refl, sym, ap, ◌∙◌, subst, append_assoc, append-nil, drop-cons, arith}
 use Rattle.std.specs.Prelude.{nat_le, is_none}
-use Rattle.std.specs.List.{list_all, slice_get}
-use Rattle.std.specs.Option.{option_map_or, option_to_list}
-use Rattle.std.proofs.lemmas.Bool.{and_from, and_parts, cases_lt, eq-eqb, eqb-true, false≢true, leb-true}
+use Rattle.bus_semantics.specs.Common.{list_all, slice_get, option_map_or, and_from, and_parts, cases_lt, eq-eqb, eqb-true, false≢true, leb-true, drop_all, same_Some, same_number, Limits}
+use Rattle.bus_semantics.specs.Common.{wish_fits, is_queued, Plan, look, IsSound, number_or_0, queue_lengths, sum_over, elem_sound, limits_fit, is_in, Letters, to_receive, to_send}
+use Rattle.std.specs.Option.{option_to_list}
 use Rattle.std.proofs.lemmas.Int.{ints}
-use Rattle.std.proofs.lemmas.List.{drop_all}
-use Rattle.std.proofs.lemmas.Option.{same_Some}
-use Rattle.rte_value.specs.Values.{same_number}
-use Rattle.rte_value.specs.declared.kinds.Limits.{Limits}
-use Rattle.bus_semantics.specs.declared.entries.Actor.TheVariants.{Env}
-use Rattle.bus_semantics.specs.declared.plan.ElemPlan.{ElemPlan}
-use Rattle.bus_semantics.specs.declared.plan.MachinePlan.{MachinePlan}
-use Rattle.bus_semantics.specs.declared.plan.ServerPlan.{ServerPlan}
-use Rattle.bus_semantics.specs.declared.script.Mapping.{Mapping}
-use Rattle.bus_semantics.specs.Fitting.{wish_fits}
-use Rattle.bus_semantics.specs.Owners.{is_queued}
-use Rattle.bus_semantics.specs.Plan.{Plan, look}
-use Rattle.bus_semantics.specs.Sound.{IsSound, number_or_0, queue_lengths, sum_over}
-use Rattle.bus_semantics.specs.SoundElements.{elem_sound, limits_fit}
-use Rattle.bus_semantics.specs.SoundPlan.{is_in}
-use Rattle.bus_semantics.specs.Spelling.{Letters}
-use Rattle.bus_semantics.specs.Wanted.{to_receive, to_send}
+use Rattle.bus_laws.specs.Common.{Env, ElemPlan, MachinePlan, ServerPlan, Mapping}
 use Rattle.bus_laws.proofs.Thinning.{found_where}
 use Rattle.pair_run.specs.Sent as sent
 use Rattle.script_reading.specs.declared.forms.Form.TheVariants.{Send, Receive}

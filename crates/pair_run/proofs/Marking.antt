@@ -1,11 +1,11 @@
 -- Marks of the elements that are linked.
-use Rattle.std.proofs.Common.{◌≡◌, ◌<◌, ◌≤◌, ℕ, ◌+◌, ◌==◌, Bool, true, false, ◌||◌, List, [], length, get_or, set, take, replicate, inl, inr, refl, sym, ap, ◌∙◌, subst, arith, ext_get_or, get_or-set_same, get_or-set_other, length-set}
-use Rattle.std.specs.List.{list_any, range_with_len}
-use Rattle.std.proofs.lemmas.Bool.{cases_eq, eq-eqb, ne_eqb, or_right}
-use Rattle.std.proofs.lemmas.List.{get_or-map, get_or-replicate, length-map, length-replicate, take_all}
+use Rattle.std.proofs.Common.{◌≡◌, ◌<◌, ◌≤◌, ℕ, ◌+◌, ◌==◌, Bool, true, false, ◌||◌, List, [], length, get_or, set, take, replicate, inl, inr, refl, sym, ap, ◌∙◌, subst, arith, ext_get_or}
+use Rattle.std.proofs.Common.{get_or-set_same, get_or-set_other, length-set}
+use Rattle.bus_semantics.specs.Common.{list_any, cases_eq, eq-eqb, ne_eqb, or_right, get_or-map, length-map, length-replicate, take_all, Plan}
+use Rattle.std.specs.List.{range_with_len}
+use Rattle.std.proofs.lemmas.List.{get_or-replicate}
 use Rattle.std.proofs.lemmas.List.Folds.{list_any_more}
 use Rattle.std.proofs.lemmas.List.FromFn.{length-range_with_len, get_or-range_with_len}
-use Rattle.bus_semantics.specs.Plan.{Plan}
 use Rattle.signal_link.specs.declared.link_elem.LinkElem.{LinkElem}
 use Rattle.pair_run.specs.Linked.{linked_in}
 

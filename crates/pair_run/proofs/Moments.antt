@@ -1,26 +1,11 @@
 -- What a FetchAll gives is the moment before it.
 use Rattle.std.proofs.Common.{◌≡◌, ◌≤◌, ℕ, zero, suc, ℤ, true, refl, sym, ◌∙◌, ap, subst, arith, List, [], ◌∷◌, ◌++◌, map, length, drop, Option, Some, None, is_some}
-use Rattle.std.proofs.lemmas.Bool.{false≢true}
-use Rattle.std.proofs.lemmas.Option.{same_Some}
+use Rattle.bus_semantics.specs.Common.{false≢true, same_Some, slice_get, option_map_or, Value, words_of, length-words_of, same_words-Decides, Plan, elems_of, words_at, marked, split}
+use Rattle.bus_semantics.specs.Common.{home_of, bundle_of, bundle_of_list, History, Past, noted, last_stored, value_at, moment_of, IsLegal, unqueued_allows, IsSound}
 use Rattle.std.proofs.lemmas.List.{take_at, drop_at}
 use Rattle.std.specs.Prelude.{option_and_then, unwrap_or}
-use Rattle.std.specs.List.{slice_get}
-use Rattle.std.specs.Option.{option_map_or}
-use Rattle.rte_value.specs.declared.value.Value.{Value}
-use Rattle.rte_value.specs.Values.{words_of}
-use Rattle.rte_value.specs.EqualValues.{length-words_of, same_words-Decides}
-use Rattle.bus_semantics.specs.declared.plan.ElemPlan.{ElemPlan}
-use Rattle.bus_semantics.specs.declared.script.Mapping.{Mapping}
-use Rattle.bus_semantics.specs.declared.entries.Deed.{Deed}
+use Rattle.bus_laws.specs.Common.{ElemPlan, Mapping, Deed, Entry}
 use Rattle.bus_semantics.specs.declared.entries.Deed.TheVariants as deed
-use Rattle.bus_semantics.specs.declared.entries.Entry.{Entry}
-use Rattle.bus_semantics.specs.Plan.{Plan}
-use Rattle.bus_semantics.specs.Lists.{elems_of, words_at, marked, split}
-use Rattle.bus_semantics.specs.Bundles.{home_of, bundle_of, bundle_of_list}
-use Rattle.bus_semantics.specs.History.{History, Past, noted}
-use Rattle.bus_semantics.specs.Unqueued.{last_stored, value_at, moment_of}
-use Rattle.bus_semantics.specs.Legal.{IsLegal, unqueued_allows}
-use Rattle.bus_semantics.specs.Sound.{IsSound}
 use Rattle.bus_laws.proofs.Thinning.{clash}
 use Rattle.bus_laws.proofs.Local.{proper_legal}
 use Rattle.bus_laws.proofs.OneBundle.{has_at, list_home, list_bundled}

@@ -1,14 +1,9 @@
 -- The text of a pair's run, behind its headers.
 use Rattle.std.proofs.Common.{◌≡◌, ◌≢◌, ℕ, true, List, [], Option, refl, sym, subst, append-nil}
-use Rattle.std.specs.List.{All, list_all}
+use Rattle.bus_semantics.specs.Common.{All, list_all, Plan, plan_of, item_fits, IsLegalRun, Ordered, Session, history_of, IsSound}
 use Rattle.rte_text.specs.Sinks.{AppendsWhereTold, AppendsPrefixWhereTold}
 use Rattle.rte_text.specs.Told.{appends_both, prefix_after, prefix_first}
-use Rattle.bus_semantics.specs.declared.script.Line.{Line}
-use Rattle.bus_semantics.specs.declared.script.Mapping.{Mapping}
-use Rattle.bus_semantics.specs.Plan.{Plan, plan_of}
-use Rattle.bus_semantics.specs.Reading.{item_fits}
-use Rattle.bus_semantics.specs.Run.{IsLegalRun, Ordered, Session, history_of}
-use Rattle.bus_semantics.specs.Sound.{IsSound}
+use Rattle.bus_laws.specs.Common.{Line, Mapping}
 use Rattle.core_runtime.specs.Nodes.{NodeState, IsLawfulNode}
 use Rattle.script_run.specs.Quieting.{IdlesAreQuiet}
 use Rattle.script_run.specs.Standing.{StandsIn, outside}
@@ -16,12 +11,9 @@ use Rattle.script_run.proofs.Items.{items_fit}
 use Rattle.script_run.proofs.Quieting.{QuietLaw, idles_are_quiet}
 use Rattle.script_run.proofs.Sessions.{run_from_nothing}
 use Rattle.signal_link.specs.declared.link_elem.LinkElem.{LinkElem}
-use Rattle.pair_run.specs.declared.pair.PairRun.{PairRun}
-use Rattle.pair_run.specs.declared.pair.PairRun.TheVariants.{Finished, Failed, LinkFailed, Memory}
-use Rattle.pair_run.specs.Crossing.{Follows}
-use Rattle.pair_run.specs.Joint.{Joint, one, two, side_of, headers, joint_lines}
-use Rattle.pair_run.specs.Running.{IsPairLine, PrintsBegunPair, PrintsPair}
-use Rattle.pair_run.specs.Standing.{CarryBoth, CutsBoth, Stand, StandBoth}
+use Rattle.pair_run.specs.Common.{PairRun, Finished, Failed, LinkFailed, Memory, Follows, Joint, one, two, side_of, joint_lines, IsPairLine, CarryBoth, CutsBoth, Stand, StandBoth}
+use Rattle.pair_run.specs.Joint.{headers}
+use Rattle.pair_run.specs.Running.{PrintsBegunPair, PrintsPair}
 use Rattle.pair_run.proofs.Completing.{follows_may}
 
 -- nothing has happened to either

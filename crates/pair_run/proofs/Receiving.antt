@@ -1,38 +1,22 @@
 -- One call at a link: a Receive on one, a Send on two.
-use Rattle.std.proofs.Common.{◌≡◌, ◌⊎◌, ◌≤◌, ℕ, zero, suc, ◌+◌, ℤ, Bool, true, false, ◌&&◌, ◌||◌, ◌==◌, cond, List, [], ◌∷◌, ◌++◌, length, Option, Some, None, inl, inr, refl, sym, ap, ◌∙◌, subst, append_assoc, append-nil, arith}
-use Rattle.std.proofs.lemmas.Bool.{and_from, eq-eqb, eqb-true, or_left, or_right}
+use Rattle.std.proofs.Common.{◌≡◌, ◌⊎◌, ◌≤◌, ℕ, zero, suc, ◌+◌, ℤ, Bool, true, false, ◌&&◌, ◌||◌, ◌==◌, cond, List, [], ◌∷◌, ◌++◌, length, Option, Some, None, inl, inr, refl, sym, ap, ◌∙◌}
+use Rattle.std.proofs.Common.{subst, append_assoc, append-nil, arith}
+use Rattle.bus_semantics.specs.Common.{and_from, eq-eqb, eqb-true, or_left, or_right, same_Some, Value, Value-by_words, words_of, noted, IsLegal, Plan, takes_at, IsSound, Ordered, Session}
+use Rattle.bus_semantics.specs.Common.{made, a_call, history_of, orders_of, orders_of_entry, Wanted, to_tick, to_receive, to_send, wanted_by}
 use Rattle.std.proofs.lemmas.List.{append_cancel_left}
-use Rattle.std.proofs.lemmas.Option.{same_Some}
 use Rattle.rte_text.specs.declared.sink.Put.{Put}
 use Rattle.rte_text.specs.declared.sink.Put.TheVariants as putting
 use Rattle.rte_text.specs.Sinks.{ToldAfter}
-use Rattle.rte_value.specs.declared.value.Value.{Value}
-use Rattle.rte_value.specs.EqualValues.{Value-by_words}
-use Rattle.rte_value.specs.Values.{words_of}
-use Rattle.bus_semantics.specs.declared.entries.Actor.{Actor}
-use Rattle.bus_semantics.specs.declared.entries.Actor.TheVariants.{Env, Machine, Act}
-use Rattle.bus_semantics.specs.declared.entries.Deed.{Deed}
+use Rattle.bus_laws.specs.Common.{Actor, Env, Machine, Act, Deed, Entry, Mapping}
 use Rattle.bus_semantics.specs.declared.entries.Deed.TheVariants as deed
-use Rattle.bus_semantics.specs.declared.entries.Entry.{Entry}
-use Rattle.bus_semantics.specs.declared.script.Mapping.{Mapping}
-use Rattle.bus_semantics.specs.History.{noted}
-use Rattle.bus_semantics.specs.Legal.{IsLegal}
-use Rattle.bus_semantics.specs.Plan.{Plan}
-use Rattle.bus_semantics.specs.Queued.{takes_at}
-use Rattle.bus_semantics.specs.Sound.{IsSound}
-use Rattle.bus_semantics.specs.Run.{Ordered, Session, made, a_call, history_of, orders_of, orders_of_entry}
-use Rattle.bus_semantics.specs.Wanted.{Wanted, to_tick, to_receive, to_send, wanted_by}
-use Rattle.pair_run.specs.Sent.{IsReceived, a_value, nothing, takes, waiting_at}
+use Rattle.pair_run.specs.Common.{IsReceived, a_value, nothing, takes, waiting_at, Finished, Failed, Then, Takes, Sends, Passes, Passed, FindsNone, Drains, held_in, Joint, one, two, side_of}
+use Rattle.pair_run.specs.Common.{joint_lines, StandBoth, CutsBoth, CarryBoth, Writes}
 use Rattle.pair_run.proofs.Waiting.{held, oldest, places}
 use Rattle.pair_run.proofs.Within.{received}
 use Rattle.core_runtime.specs.Nodes.{NodeState}
 use Rattle.script_run.specs.declared.writing.Writing.{Writing}
 use Rattle.script_run.specs.Standing.{Calls, outside}
 use Rattle.signal_link.specs.declared.link_elem.LinkElem.{LinkElem}
-use Rattle.pair_run.specs.declared.pair.PairRun.TheVariants.{Finished, Failed}
-use Rattle.pair_run.specs.Crossing.{Then, Takes, Sends, Passes, Passed, FindsNone, Drains, held_in}
-use Rattle.pair_run.specs.Joint.{Joint, one, two, side_of, joint_lines}
-use Rattle.pair_run.specs.Standing.{StandBoth, CutsBoth, CarryBoth, Writes}
 use Rattle.pair_run.proofs.Carrying.{legal_now, one_legal, two_legal, stands_on_one, stands_on_two}
 use Rattle.pair_run.proofs.Completing.{none_may, sends_may}
 use Rattle.pair_run.proofs.Joints.{lines-all, then_both, then_onto}

@@ -1,24 +1,14 @@
 -- What the lines of a script of two nodes are.
 use Rattle.std.proofs.Common.{◌≡◌, true, List, [], ◌∷◌, map, refl, ap, ◌∙◌}
-use Rattle.std.specs.List.{All, list_all}
-use Rattle.std.proofs.lemmas.Bool.{and_from, and_parts}
-use Rattle.std.proofs.lemmas.List.Elements.{All-cons, All-head, All-nil, All-tail}
-use Rattle.std.proofs.lemmas.List.Folds.{list_all-append}
-use Rattle.bus_semantics.specs.declared.entries.Actor.TheVariants.{Env}
-use Rattle.bus_semantics.specs.declared.script.Line.{Line}
-use Rattle.bus_semantics.specs.Fitting.{wish_fits}
-use Rattle.bus_semantics.specs.Plan.{Plan}
-use Rattle.bus_semantics.specs.Spelling.{Letters}
-use Rattle.bus_semantics.specs.Wanted.{to_send}
+use Rattle.bus_semantics.specs.Common.{All, list_all, and_from, and_parts, All-head, All-nil, All-tail, list_all-append, wish_fits, Plan, Letters, to_send}
+use Rattle.std.proofs.lemmas.List.Elements.{All-cons}
+use Rattle.bus_laws.specs.Common.{Env, Line}
 use Rattle.line_fields.specs.Numbers.{are_held}
 use Rattle.line_fields.specs.Texts.{lines_of}
 use Rattle.script_reading.specs.declared.forms.Form.TheVariants.{Send}
 use Rattle.script_reading.specs.Carried.{IsCarriable}
-use Rattle.script_reading.specs.Meaning.{Asked, a_call, asked_of, Saying, nothing, asks, is_bad, saying}
-use Rattle.script_reading.specs.Offers.{takes}
-use Rattle.script_reading.specs.Reading.{IsScriptBy, asked_by, asked_in}
-use Rattle.script_reading.specs.Reserved.{keeps_off, saying_around}
-use Rattle.script_reading.specs.Sentences.{may_ask}
+use Rattle.script_reading.specs.Common.{Asked, a_call, asked_of, Saying, nothing, asks, is_bad, saying, takes, IsScriptBy, asked_by, asked_in, saying_around, may_ask}
+use Rattle.script_reading.specs.Reserved.{keeps_off}
 use Rattle.script_reading.proofs.Asking.{saying_asks}
 use Rattle.script_reading.proofs.Carrying.{script_is_carriable}
 use Rattle.script_reading.proofs.Reserving.{is_around}

@@ -1,32 +1,18 @@
 -- What each side does of a script.
 use Rattle.std.proofs.Common.{◌≡◌, ℕ, zero, suc, Bool, true, false, not, ◌&&◌, ◌==◌, cond, List, [], ◌∷◌, ◌++◌, get_or, filter, replicate, Some, None, refl, sym, ap, ◌∙◌, append_assoc, append-nil}
-use Rattle.std.specs.List.{All, AllByRecursion, flat_map, list_any, slice_get}
-use Rattle.std.proofs.lemmas.Bool.{eq-eqb, not-true, or_left, or_right}
-use Rattle.std.proofs.lemmas.List.Elements.{All-head, All-tail, filter-append}
-use Rattle.std.proofs.lemmas.Option.{same_Some, slice_get_within}
-use Rattle.bus_semantics.specs.declared.entries.Actor.TheVariants.{Env}
+use Rattle.bus_semantics.specs.Common.{All, AllByRecursion, flat_map, list_any, slice_get, eq-eqb, not-true, or_left, or_right, All-head, All-tail, filter-append, same_Some}
+use Rattle.bus_semantics.specs.Common.{slice_get_within, wish_fits, is_environment, is_queued, Plan, Session, made, run_begins, run_closes, Ordered, a_run, a_call, orders_of}
+use Rattle.bus_semantics.specs.Common.{orders_of_entry, orders_of_line, orders_of_script, Wanted, to_tick, to_receive, to_send, wanted_by, wanted_of, Value, same_number, words_of}
+use Rattle.bus_laws.specs.Common.{Env, Entry, ElemPlan, Line}
 use Rattle.bus_semantics.specs.declared.entries.Deed.TheVariants as deed
-use Rattle.bus_semantics.specs.declared.entries.Entry.{Entry}
-use Rattle.bus_semantics.specs.declared.plan.ElemPlan.{ElemPlan}
-use Rattle.bus_semantics.specs.declared.script.Line.{Line}
 use Rattle.bus_semantics.specs.declared.script.Line.TheVariants as line
-use Rattle.bus_semantics.specs.Fitting.{wish_fits}
-use Rattle.bus_semantics.specs.History.{is_environment}
-use Rattle.bus_semantics.specs.Owners.{is_queued}
-use Rattle.bus_semantics.specs.Plan.{Plan}
-use Rattle.bus_semantics.specs.Run.{Session, made, run_begins, run_closes, Ordered, a_run, a_call, orders_of, orders_of_entry, orders_of_line, orders_of_script}
-use Rattle.bus_semantics.specs.Wanted.{Wanted, to_tick, to_receive, to_send, wanted_by, wanted_of}
 use Rattle.bus_laws.proofs.Thinning.{found_where}
-use Rattle.rte_value.specs.declared.value.Value.{Value}
-use Rattle.rte_value.specs.Values.{same_number, words_of}
 use Rattle.script_reading.specs.Meaning as asked
 use Rattle.script_reading.specs.Reserved.{keeps_off}
 use Rattle.signal_link.specs.declared.link_elem.LinkElem.{LinkElem}
-use Rattle.pair_run.specs.Crossing.{Then, InOrder, Takes, Sends, FindsNone, Passes, Passed, Drains, Crosses, Did, Makes, Follows}
-use Rattle.pair_run.specs.Joint.{Joint, Side, one, two, side_of}
-use Rattle.pair_run.specs.Linked.{linked_in}
-use Rattle.pair_run.specs.Parts.{is_link_receive, is_link_send, is_of_both}
-use Rattle.pair_run.specs.Running.{IsPairLine}
+use Rattle.pair_run.specs.Common.{Then, InOrder, Takes, Sends, FindsNone, Passes, Passed, Drains, Crosses, Did, Makes, Follows, Joint, Side, one, two, side_of, linked_in, is_link_receive}
+use Rattle.pair_run.specs.Common.{IsPairLine}
+use Rattle.pair_run.specs.Parts.{is_link_send, is_of_both}
 use Rattle.pair_run.proofs.Joints.{side-append, one-of_one, one-of_two, two-of_one, two-of_two}
 use Rattle.pair_run.proofs.Marking.{linked_at}
 

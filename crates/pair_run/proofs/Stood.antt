@@ -1,20 +1,12 @@
 -- Where two nodes stand on the way.
 use Rattle.std.proofs.Common.{◌≡◌, ◌<◌, ℕ, ℤ, true, List, ◌++◌, length, Option, Some, sym, ap, ◌∙◌, subst, arith}
-use Rattle.std.specs.List.{slice_get}
-use Rattle.std.proofs.lemmas.Option.{slice_get_within}
+use Rattle.bus_semantics.specs.Common.{slice_get, slice_get_within, wish_fits, Plan, plan_of, to_receive, to_send}
 use Rattle.bus_semantics.specs.declared.entries.Actor.TheVariants.{Env}
-use Rattle.bus_semantics.specs.Fitting.{wish_fits}
-use Rattle.bus_semantics.specs.Plan.{Plan, plan_of}
-use Rattle.bus_semantics.specs.Wanted.{to_receive, to_send}
-use Rattle.pair_run.specs.Sent.{takes}
+use Rattle.pair_run.specs.Common.{takes, Finished, Joint, links_of, CarryBoth, Stand}
 use Rattle.core_runtime.specs.Nodes.{NodeState}
 use Rattle.signal_link.specs.declared.link_elem.LinkElem.{LinkElem}
 use Rattle.signal_link.specs.Links as link
 use Rattle.signal_link.specs.Unframing.{IsGood, Kept, fresh}
-use Rattle.pair_run.specs.declared.pair.PairRun.TheVariants.{Finished}
-use Rattle.pair_run.specs.Joint.{Joint}
-use Rattle.pair_run.specs.Linked.{links_of}
-use Rattle.pair_run.specs.Standing.{CarryBoth, Stand}
 use Rattle.pair_run.proofs.Linking.{is_link_of, link_takes, links_are_few, links_are_of_words, receives, sends}
 
 -- what goes on goes on to where both stand

@@ -1,30 +1,17 @@
 -- What goes over a link: on two is sent what on one was taken, and where a run was cut off, at most one value less.
-use Rattle.std.proofs.Common.{◌≡◌, ◌⊎◌, ℕ, ℤ, zero, suc, Bool, true, false, not, ◌&&◌, ◌||◌, ◌==◌, cond, List, [], ◌∷◌, ◌++◌, replicate, Some, inl, inr, refl, sym, ap, ◌∙◌, subst, append_assoc, append-nil}
-use Rattle.std.specs.List.{All, AllByRecursion, list_all, slice_get}
-use Rattle.std.proofs.lemmas.Bool.{and_from, and_parts, and_right, eq-eqb, eqb-true, false≢true, false_from_ne_true, not-true, not_from_false}
-use Rattle.std.proofs.lemmas.List.Elements.{All-head, All-tail}
-use Rattle.std.proofs.lemmas.List.Folds.{list_all-append}
-use Rattle.rte_value.specs.declared.value.Value.{Value}
-use Rattle.rte_value.specs.Values.{words_of}
-use Rattle.bus_semantics.specs.declared.entries.Actor.{Actor}
-use Rattle.bus_semantics.specs.declared.entries.Actor.TheVariants.{Env}
-use Rattle.bus_semantics.specs.declared.entries.Deed.{Deed}
+use Rattle.std.proofs.Common.{◌≡◌, ◌⊎◌, ℕ, ℤ, zero, suc, Bool, true, false, not, ◌&&◌, ◌||◌, ◌==◌, cond, List, [], ◌∷◌, ◌++◌, replicate, Some, inl, inr, refl, sym, ap, ◌∙◌, subst}
+use Rattle.std.proofs.Common.{append_assoc, append-nil}
+use Rattle.bus_semantics.specs.Common.{All, AllByRecursion, list_all, slice_get, and_from, and_parts, and_right, eq-eqb, eqb-true, false≢true, false_from_ne_true, not-true, All-head}
+use Rattle.bus_semantics.specs.Common.{All-tail, list_all-append, Value, words_of, History, is_environment, Plan, Item, Session, made, run_begins, run_closes, history_of, Ordered, a_run}
+use Rattle.bus_semantics.specs.Common.{a_call, orders_of, orders_of_entry, orders_of_script, IsSound, Wanted, to_tick, to_receive, to_send, wanted_of}
+use Rattle.std.proofs.lemmas.Bool.{not_from_false}
+use Rattle.bus_laws.specs.Common.{Actor, Env, Deed, Entry, Line, Mapping}
 use Rattle.bus_semantics.specs.declared.entries.Deed.TheVariants as deed
-use Rattle.bus_semantics.specs.declared.entries.Entry.{Entry}
-use Rattle.bus_semantics.specs.declared.script.Line.{Line}
 use Rattle.bus_semantics.specs.declared.script.Line.TheVariants as line
-use Rattle.bus_semantics.specs.declared.script.Mapping.{Mapping}
-use Rattle.bus_semantics.specs.History.{History, is_environment}
-use Rattle.bus_semantics.specs.Plan.{Plan}
-use Rattle.bus_semantics.specs.Run.{Item, Session, made, run_begins, run_closes, history_of, Ordered, a_run, a_call, orders_of, orders_of_entry, orders_of_script}
-use Rattle.bus_semantics.specs.Sound.{IsSound}
-use Rattle.bus_semantics.specs.Wanted.{Wanted, to_tick, to_receive, to_send, wanted_of}
 use Rattle.signal_link.specs.declared.link_elem.LinkElem.{LinkElem}
-use Rattle.pair_run.specs.Crossing.{Then, InOrder, Takes, Sends, FindsNone, Passes, Passed, Drains, Crosses, Did, Makes, Follows}
-use Rattle.pair_run.specs.Joint.{Joint, Side, one, two, side_of, all_on}
-use Rattle.pair_run.specs.Linked.{links_of}
-use Rattle.pair_run.specs.Parts.{all_by_environment, is_link_receive, value_sent, value_taken, values_sent, values_taken}
-use Rattle.pair_run.specs.Running.{IsPairLine}
+use Rattle.pair_run.specs.Common.{Then, InOrder, Takes, Sends, FindsNone, Passes, Passed, Drains, Crosses, Did, Makes, Follows, Joint, Side, one, two, side_of, all_on, links_of}
+use Rattle.pair_run.specs.Common.{is_link_receive, IsPairLine}
+use Rattle.pair_run.specs.Parts.{all_by_environment, value_sent, value_taken, values_sent, values_taken}
 use Rattle.pair_run.proofs.Joints.{side-append}
 use Rattle.pair_run.proofs.Limits.{history-append}
 use Rattle.pair_run.proofs.Linking.{in_by_out, is_link_of, out_by_in}

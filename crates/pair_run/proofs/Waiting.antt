@@ -1,25 +1,12 @@
 -- What waits in a queue.
-use Rattle.std.proofs.Common.{◌≡◌, ◌⊎◌, ◌<◌, ◌≤◌, ℕ, suc, ◌+◌, ℤ, Bool, true, false, ◌||◌, ◌==◌, if◌then◌else◌, refl, sym, ◌∙◌, ap, subst, arith, inl, inr, List, [], ◌∷◌, length, drop, length-drop, Option, Some, None}
-use Rattle.std.proofs.lemmas.Bool.{and_parts, leb-true, false≢true, cases_lt}
-use Rattle.std.proofs.lemmas.List.{drop_more, drop_all}
-use Rattle.std.proofs.lemmas.Option.{slice_get_within, get_or_from_slice_get}
+use Rattle.std.proofs.Common.{◌≡◌, ◌⊎◌, ◌<◌, ◌≤◌, ℕ, suc, ◌+◌, ℤ, Bool, true, false, ◌||◌, ◌==◌, if◌then◌else◌, refl, sym, ◌∙◌, ap, subst, arith, inl, inr, List, [], ◌∷◌, length, drop}
+use Rattle.std.proofs.Common.{length-drop, Option, Some, None}
+use Rattle.bus_semantics.specs.Common.{and_parts, leb-true, false≢true, cases_lt, drop_more, drop_all, slice_get_within, get_or_from_slice_get, slice_get, option_map_or, Value, words_of}
+use Rattle.bus_semantics.specs.Common.{Plan, History, Past, noted, takes_at, taken_at, sent_to, with_sent, is_room, places_at, accepted_at, has_lost, received_at, queued_allows, is_outcome}
+use Rattle.bus_semantics.specs.Common.{IsLegal, is_in, elem_sound, IsSound}
 use Rattle.std.specs.Prelude.{nat_le}
-use Rattle.std.specs.List.{slice_get}
-use Rattle.std.specs.Option.{option_map_or}
-use Rattle.rte_value.specs.declared.value.Value.{Value}
-use Rattle.rte_value.specs.Values.{words_of}
-use Rattle.bus_semantics.specs.declared.plan.ElemPlan.{ElemPlan}
-use Rattle.bus_semantics.specs.declared.script.Mapping.{Mapping}
-use Rattle.bus_semantics.specs.declared.entries.Deed.{Deed}
+use Rattle.bus_laws.specs.Common.{ElemPlan, Mapping, Deed, Entry}
 use Rattle.bus_semantics.specs.declared.entries.Deed.TheVariants as deed
-use Rattle.bus_semantics.specs.declared.entries.Entry.{Entry}
-use Rattle.bus_semantics.specs.Plan.{Plan}
-use Rattle.bus_semantics.specs.History.{History, Past, noted}
-use Rattle.bus_semantics.specs.Queued.{takes_at, taken_at, sent_to, with_sent, is_room, places_at, accepted_at, has_lost, received_at}
-use Rattle.bus_semantics.specs.Legal.{queued_allows, is_outcome, IsLegal}
-use Rattle.bus_semantics.specs.SoundPlan.{is_in}
-use Rattle.bus_semantics.specs.SoundElements.{elem_sound}
-use Rattle.bus_semantics.specs.Sound.{IsSound}
 use Rattle.history_laws.specs.LookUps.{all_at}
 use Rattle.bus_laws.proofs.QueueLaws.{receive_sends_none, takes_oldest, bounded}
 use Rattle.history_laws.proofs.Lists.{there_is}

@@ -1,30 +1,13 @@
 -- What queues accept are values of their elements.
-use Rattle.std.proofs.Common.{◌≡◌, ℕ, zero, suc, ℤ, Bool, true, false, ◌&&◌, ◌||◌, not, ◌==◌, if◌then◌else◌, int_le, refl, sym, ◌∙◌, ap, subst, arith, inl, inr, List, [], ◌∷◌, length, replicate, Option, Some, None}
-use Rattle.std.proofs.lemmas.Bool.{and_from, and_parts, eqb-true, eq-eqb, false≢true}
+use Rattle.std.proofs.Common.{◌≡◌, ℕ, zero, suc, ℤ, Bool, true, false, ◌&&◌, ◌||◌, not, ◌==◌, if◌then◌else◌, int_le, refl, sym, ◌∙◌, ap, subst, arith, inl, inr, List, [], ◌∷◌, length}
+use Rattle.std.proofs.Common.{replicate, Option, Some, None}
+use Rattle.bus_semantics.specs.Common.{and_from, and_parts, eqb-true, eq-eqb, false≢true, same_Some, list_all, slice_get, option_map_or, Limits, Value, words_of, same_words-Decides, Plan}
+use Rattle.bus_semantics.specs.Common.{group_of, to_send, History, noted, is_in_group, sent_in, sent_to, taken_at, is_room, places_at, accepted_at, has_lost, received_at, queued_allows}
+use Rattle.bus_semantics.specs.Common.{is_outcome, MayFollow, IsLegal, is_within, agrees, IsSound}
 use Rattle.std.proofs.lemmas.Int.{ints}
-use Rattle.std.proofs.lemmas.Option.{same_Some}
 use Rattle.std.specs.Prelude.{nat_lt}
-use Rattle.std.specs.List.{list_all, slice_get}
-use Rattle.std.specs.Option.{option_map_or}
-use Rattle.rte_value.specs.declared.kinds.Limits.{Limits}
-use Rattle.rte_value.specs.declared.value.Value.{Value}
-use Rattle.rte_value.specs.Values.{words_of}
-use Rattle.rte_value.specs.EqualValues.{same_words-Decides}
-use Rattle.bus_semantics.specs.declared.plan.ElemPlan.{ElemPlan}
-use Rattle.bus_semantics.specs.declared.script.Mapping.{Mapping}
-use Rattle.bus_semantics.specs.declared.entries.Actor.{Actor}
-use Rattle.bus_semantics.specs.declared.entries.Actor.TheVariants.{Env, Machine, Act}
-use Rattle.bus_semantics.specs.declared.entries.Deed.{Deed}
+use Rattle.bus_laws.specs.Common.{ElemPlan, Mapping, Actor, Env, Machine, Act, Deed, Entry}
 use Rattle.bus_semantics.specs.declared.entries.Deed.TheVariants as deed
-use Rattle.bus_semantics.specs.declared.entries.Entry.{Entry}
-use Rattle.bus_semantics.specs.Plan.{Plan, group_of}
-use Rattle.bus_semantics.specs.Wanted.{to_send}
-use Rattle.bus_semantics.specs.History.{History, noted}
-use Rattle.bus_semantics.specs.Unqueued.{is_in_group}
-use Rattle.bus_semantics.specs.Queued.{sent_in, sent_to, taken_at, is_room, places_at, accepted_at, has_lost, received_at}
-use Rattle.bus_semantics.specs.Legal.{queued_allows, is_outcome, MayFollow, IsLegal}
-use Rattle.bus_semantics.specs.SoundElements.{is_within, agrees}
-use Rattle.bus_semantics.specs.Sound.{IsSound}
 use Rattle.history_laws.specs.Given.{are_within, elem_takes}
 use Rattle.history_laws.specs.LookUps.{all_at}
 use Rattle.history_laws.proofs.Asking.{given}

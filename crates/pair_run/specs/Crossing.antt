@@ -1,14 +1,10 @@
 -- What a script makes of two linked nodes, line by line. A line of ticks ticks one and then two; a run line runs one, then what one holds for the
 -- links crosses, then it runs two; any other line is one's. Joint sessions have their newest item first.
 use Rattle.std.specs.Prelude.{◌≡◌, ◌⊎◌, ℕ, zero, suc, ◌||◌, ◌==◌, if◌then◌else◌, List, [], ◌∷◌, ◌++◌, Option, Some, None}
-use Rattle.rte_value.specs.declared.value.Value.{Value}
-use Rattle.bus_semantics.specs.declared.entries.Actor.TheVariants.{Env}
-use Rattle.bus_semantics.specs.declared.entries.Deed.{Deed}
+use Rattle.bus_semantics.specs.Common.{Value, Session, made, IsSessionOf}
+use Rattle.bus_laws.specs.Common.{Env, Deed, Entry, Line}
 use Rattle.bus_semantics.specs.declared.entries.Deed.TheVariants as deed
-use Rattle.bus_semantics.specs.declared.entries.Entry.{Entry}
-use Rattle.bus_semantics.specs.declared.script.Line.{Line}
 use Rattle.bus_semantics.specs.declared.script.Line.TheVariants as line
-use Rattle.bus_semantics.specs.Run.{Session, made, IsSessionOf}
 use Rattle.signal_link.specs.declared.link_elem.LinkElem.{LinkElem}
 use Rattle.pair_run.specs.Joint.{Joint, Side, one, two, all_on}
 

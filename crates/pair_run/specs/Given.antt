@@ -1,14 +1,9 @@
 -- Which values entries give to elements (SWS_RTE: Rte_Write, Rte_IWrite; of variables: Rte_IrvWrite, Rte_IrvIWrite). Histories stand the
 -- newest first, values that are given one after the other the oldest first.
 use Rattle.std.specs.Prelude.{◌≡◌, ℕ, ℤ, List, [], ◌∷◌, ◌++◌, Bool, false, Some}
-use Rattle.std.specs.List.{list_any}
-use Rattle.rte_value.specs.Values.{words_of}
+use Rattle.bus_semantics.specs.Common.{list_any, words_of, Plan, group_of, elems_of, marked, split, History, is_in_group}
 use Rattle.bus_semantics.specs.declared.entries.Deed.{Deed}
 use Rattle.bus_semantics.specs.declared.entries.Deed.TheVariants as deed
-use Rattle.bus_semantics.specs.Plan.{Plan, group_of}
-use Rattle.bus_semantics.specs.Lists.{elems_of, marked, split}
-use Rattle.bus_semantics.specs.History.{History}
-use Rattle.bus_semantics.specs.Unqueued.{is_in_group}
 
 -- what a publication of a list gives: its marked elements in the list's order, each with its words
 abbrev pub published : Plan → (list : ℕ) → (written : ℕ) → List ℤ → List (ℕ × List ℤ)

@@ -1,9 +1,7 @@
 -- What happens on two nodes, in one order, and its text. Two nodes side by side are this project's own.
 use Rattle.std.specs.Prelude.{List, [], ◌∷◌, ◌++◌, codes, map, Bool, true, false, if◌then◌else◌}
 use Rattle.bus_semantics.specs.declared.version.Version.TheVariants as version
-use Rattle.bus_semantics.specs.Plan.{Plan}
-use Rattle.bus_semantics.specs.Run.{Item, Session}
-use Rattle.bus_semantics.specs.Spelling.{Letters, header, item_text}
+use Rattle.bus_semantics.specs.Common.{Plan, Item, Session, Letters, header, item_text}
 
 -- the node that sends into the link, and the one that the link sends to
 pub data Side : Type 0 where

@@ -8,3 +8,4 @@ pub mod Standing
 pub mod Sent
 pub mod Given
 pub mod OneMoment
+pub mod Common

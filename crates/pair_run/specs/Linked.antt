@@ -1,11 +1,10 @@
 -- Which elements of two nodes are linked (SWS_RTE: Rte_Send, Rte_Receive, made from outside). What the first node sends at an outer port its
 -- environment receives, and what the environment of the second node sends comes in at an outer port of this.
 use Rattle.std.specs.Prelude.{ℕ, suc, List, [], ◌∷◌, ◌++◌, map, length, Bool, false, ◌&&◌, ◌==◌, is_none, if◌then◌else◌, Option, Some, None}
-use Rattle.std.specs.List.{list_any, range_with_len}
+use Rattle.bus_semantics.specs.Common.{list_any, int_eq, Plan, look}
+use Rattle.std.specs.List.{range_with_len}
 use Rattle.std.specs.Option.{option_to_list}
-use Rattle.std.specs.Ordering.{int_eq}
 use Rattle.bus_semantics.specs.declared.plan.ElemPlan.{ElemPlan}
-use Rattle.bus_semantics.specs.Plan.{Plan, look}
 use Rattle.script_reading.specs.declared.forms.Form.TheVariants.{Send, Receive}
 use Rattle.script_reading.specs.Offers.{is_for, number_of}
 use Rattle.signal_link.specs.declared.link_elem.LinkElem.{LinkElem}

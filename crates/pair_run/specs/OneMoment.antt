@@ -1,14 +1,8 @@
 -- What is seen of coherent lists (SWS_RTE: Rte_IRead, Rte_IWrite; the lists are this project's own). Histories stand the newest first.
 use Rattle.std.specs.Prelude.{◌≡◌, ℕ, ℤ, List, [], ◌∷◌, ◌++◌, true, false, Some, slice_get}
 use Rattle.std.specs.Int.{bit_at}
-use Rattle.rte_value.specs.declared.value.Value.{Value}
-use Rattle.rte_value.specs.Values.{words_of}
-use Rattle.bus_semantics.specs.declared.plan.ElemPlan.{ElemPlan}
-use Rattle.bus_semantics.specs.declared.entries.Entry.{Entry}
-use Rattle.bus_semantics.specs.Plan.{Plan, group_of}
-use Rattle.bus_semantics.specs.Lists.{elems_of, split}
-use Rattle.bus_semantics.specs.History.{History, noted}
-use Rattle.bus_semantics.specs.Unqueued.{moment_of}
+use Rattle.bus_semantics.specs.Common.{Value, words_of, Plan, group_of, elems_of, split, History, noted, moment_of}
+use Rattle.bus_laws.specs.Common.{ElemPlan, Entry}
 use Rattle.pair_run.specs.Given.{published, gives, given_in, reaches, IsLastGiven}
 
 -- what a fetched list shows: its elements in the list's order, each with its words

@@ -1,9 +1,7 @@
 -- A run of two linked nodes.
 use Rattle.std.specs.Prelude.{List, ◌++◌}
-use Rattle.bus_semantics.specs.declared.script.Line.{Line}
-use Rattle.bus_semantics.specs.declared.script.Mapping.{Mapping}
-use Rattle.bus_semantics.specs.Plan.{Plan}
-use Rattle.bus_semantics.specs.Run.{IsLegalRun}
+use Rattle.bus_laws.specs.Common.{Line, Mapping}
+use Rattle.bus_semantics.specs.Common.{Plan, IsLegalRun}
 use Rattle.signal_link.specs.declared.link_elem.LinkElem.{LinkElem}
 use Rattle.pair_run.specs.Joint.{Joint, one, two, side_of}
 use Rattle.pair_run.specs.Crossing.{Follows}

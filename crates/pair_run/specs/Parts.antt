@@ -1,14 +1,9 @@
 -- What the definitions of a pair come to, in sentences: what each side does of the script, and what each link carries.
 use Rattle.std.specs.Prelude.{ℕ, ℤ, List, [], ◌∷◌, ◌++◌, Bool, true, false, ◌&&◌, ◌||◌, ◌==◌, if◌then◌else◌}
-use Rattle.std.specs.List.{list_any}
-use Rattle.rte_value.specs.Values.{words_of}
-use Rattle.bus_semantics.specs.declared.entries.Deed.{Deed}
+use Rattle.bus_semantics.specs.Common.{list_any, words_of, History, is_environment, Ordered, a_call, to_receive, to_send}
+use Rattle.bus_laws.specs.Common.{Deed, Line}
 use Rattle.bus_semantics.specs.declared.entries.Deed.TheVariants as deed
-use Rattle.bus_semantics.specs.declared.script.Line.{Line}
 use Rattle.bus_semantics.specs.declared.script.Line.TheVariants as line
-use Rattle.bus_semantics.specs.History.{History, is_environment}
-use Rattle.bus_semantics.specs.Run.{Ordered, a_call}
-use Rattle.bus_semantics.specs.Wanted.{to_receive, to_send}
 use Rattle.signal_link.specs.declared.link_elem.LinkElem.{LinkElem}
 
 -- a Receive from a linked element, and a Send to one

@@ -1,13 +1,9 @@
 -- What a run of two linked nodes puts.
 use Rattle.std.specs.Prelude.{◌≡◌, ℕ, List, [], Bool, true, Option}
-use Rattle.std.specs.List.{list_all}
+use Rattle.bus_semantics.specs.Common.{list_all, Plan, item_fits, history_of, to_send}
 use Rattle.rte_text.specs.Counts.{Rose}
 use Rattle.rte_text.specs.Sinks.{AppendsWhereTold, AppendsPrefixWhereTold}
-use Rattle.bus_semantics.specs.declared.script.Line.{Line}
-use Rattle.bus_semantics.specs.declared.script.Mapping.{Mapping}
-use Rattle.bus_semantics.specs.Plan.{Plan}
-use Rattle.bus_semantics.specs.Reading.{item_fits}
-use Rattle.bus_semantics.specs.Run.{history_of}
+use Rattle.bus_laws.specs.Common.{Line, Mapping}
 use Rattle.core_runtime.specs.Nodes.{NodeState, IsLawfulNode}
 use Rattle.script_reading.specs.Carried.{IsCarriable}
 use Rattle.script_reading.specs.Meaning.{Asked, a_call, asked_of}
@@ -15,7 +11,6 @@ use Rattle.script_reading.specs.Reserved.{keeps_off}
 use Rattle.script_run.specs.Quieting.{IdlesAreQuiet}
 use Rattle.pair_run.specs.Sent.{takes}
 use Rattle.signal_link.specs.declared.link_elem.LinkElem.{LinkElem}
-use Rattle.bus_semantics.specs.Wanted.{to_send}
 use Rattle.pair_run.specs.declared.pair.PairRun.{PairRun}
 use Rattle.pair_run.specs.declared.pair.PairRun.TheVariants.{Finished, Failed, LinkFailed, Memory}
 use Rattle.pair_run.specs.Joint.{Joint, one, two, side_of, joint_text}

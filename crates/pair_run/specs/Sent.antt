@@ -1,18 +1,9 @@
 -- Values on their way through queues (SWS_RTE: Rte_Send, Rte_Receive; Software Component Template: types of data elements). Histories
 -- stand the newest first, values the oldest first.
 use Rattle.std.specs.Prelude.{◌≡◌, ◌⊎◌, ℕ, ℤ, List, [], length, drop, Bool, true, false, ◌&&◌, ◌==◌}
-use Rattle.std.specs.List.{list_all}
-use Rattle.rte_value.specs.Values.{words_of}
-use Rattle.bus_semantics.specs.declared.plan.ElemPlan.{ElemPlan}
-use Rattle.bus_semantics.specs.declared.entries.Actor.{Actor}
-use Rattle.bus_semantics.specs.declared.entries.Actor.TheVariants.{Env}
-use Rattle.bus_semantics.specs.declared.entries.Deed.{Deed}
+use Rattle.bus_semantics.specs.Common.{list_all, words_of, Plan, look, History, Past, taken_at, accepted_at, is_within}
+use Rattle.bus_laws.specs.Common.{ElemPlan, Actor, Env, Deed, Entry}
 use Rattle.bus_semantics.specs.declared.entries.Deed.TheVariants as deed
-use Rattle.bus_semantics.specs.declared.entries.Entry.{Entry}
-use Rattle.bus_semantics.specs.Plan.{Plan, look}
-use Rattle.bus_semantics.specs.History.{History, Past}
-use Rattle.bus_semantics.specs.Queued.{taken_at, accepted_at}
-use Rattle.bus_semantics.specs.SoundElements.{is_within}
 
 -- as many words as the element has, each within its limits
 abbrev pub is_value_of : ElemPlan → List ℤ → Bool

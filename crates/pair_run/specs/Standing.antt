@@ -3,9 +3,7 @@ use Rattle.std.specs.Prelude.{◌≡◌, ℕ, List, [], ◌++◌, Option}
 use Rattle.rte_text.specs.Sinks.{AppendsWhereTold, AppendsPrefixWhereTold}
 use Rattle.bus_semantics.specs.declared.script.Mapping.{Mapping}
 use Rattle.bus_semantics.specs.declared.version.Version.TheVariants as version
-use Rattle.bus_semantics.specs.Plan.{Plan}
-use Rattle.bus_semantics.specs.Sound.{IsSound}
-use Rattle.bus_semantics.specs.Run.{IsLegalRun, Ordered, Session, history_of}
+use Rattle.bus_semantics.specs.Common.{Plan, IsSound, IsLegalRun, Ordered, Session, history_of}
 use Rattle.core_runtime.specs.Nodes.{NodeState}
 use Rattle.pair_run.specs.Sent.{EnvironmentKeepsLimits}
 use Rattle.signal_link.specs.Unframing.{Kept}

@@ -1,17 +1,9 @@
 //! The laws of coherent lists.
 
 ghost use Rattle.std.specs.Prelude.{◌≡◌, ◌≤◌, ℕ, ◌∷◌, ◌++◌, length};
-ghost use Rattle.rte_value.specs.declared.value.Value.{Value};
-ghost use Rattle.rte_value.specs.Values.{words_of};
-ghost use Rattle.bus_semantics.specs.declared.script.Mapping.{Mapping};
+ghost use Rattle.bus_semantics.specs.Common.{Value, words_of, Plan, elems_of, words_at, History, noted, value_at, moment_of, IsLegal, IsSound};
+ghost use Rattle.bus_laws.specs.Common.{Mapping, Entry};
 ghost use Rattle.bus_semantics.specs.declared.entries.Deed.TheVariants as deed;
-ghost use Rattle.bus_semantics.specs.declared.entries.Entry.{Entry};
-ghost use Rattle.bus_semantics.specs.Plan.{Plan};
-ghost use Rattle.bus_semantics.specs.Lists.{elems_of, words_at};
-ghost use Rattle.bus_semantics.specs.History.{History, noted};
-ghost use Rattle.bus_semantics.specs.Unqueued.{value_at, moment_of};
-ghost use Rattle.bus_semantics.specs.Legal.{IsLegal};
-ghost use Rattle.bus_semantics.specs.Sound.{IsSound};
 ghost use Rattle.pair_run.specs.OneMoment.{ShowsHistory, FetchesOneMoment, SeesAllOf};
 
 /// In a legal history the value of an element has as many words as its type says, and the values of a list's elements at one

@@ -1,14 +1,10 @@
 //! What crosses from the first node to the second after a run line of the first.
 
 ghost use Rattle.std.specs.Prelude.{◌≡◌, ◌≢◌, ◌<◌, [], length, slice_get, Some, true};
-ghost use Rattle.rte_value.specs.Values.{words_of};
+ghost use Rattle.bus_semantics.specs.Common.{words_of, wish_fits, plan_of, to_send};
 ghost use Rattle.bus_semantics.specs.declared.entries.Actor.TheVariants.{Env};
-ghost use Rattle.bus_semantics.specs.Fitting.{wish_fits};
-ghost use Rattle.bus_semantics.specs.Plan.{plan_of};
-ghost use Rattle.bus_semantics.specs.Wanted.{to_send};
 ghost use Rattle.core_runtime.specs.Nodes.{NodeState};
-ghost use Rattle.signal_link.specs.Links.{AreOfWords};
-ghost use Rattle.signal_link.specs.Unframing.{IsGood, fresh};
+ghost use Rattle.signal_link.specs.Common.{AreOfWords, IsGood, fresh};
 ghost use Rattle.signal_link.specs.declared.link_elem.LinkElem.{LinkElem};
 ghost use Rattle.pair_run.specs.declared.pair.PairRun.TheVariants.{LinkFailed};
 ghost use Rattle.pair_run.specs.Crossing.{Crosses, Drains, Sends, held_in};

@@ -1,14 +1,9 @@
 //! What the definitions of a pair come to.
 
 ghost use Rattle.std.specs.Prelude.{◌≡◌, ◌++◌, ℕ, ℤ, List, filter, not, Some, slice_get, All};
-ghost use Rattle.bus_semantics.specs.declared.script.Line.{Line};
-ghost use Rattle.bus_semantics.specs.declared.script.Mapping.{Mapping};
-ghost use Rattle.bus_semantics.specs.Plan.{Plan};
-ghost use Rattle.bus_semantics.specs.Sound.{IsSound};
-ghost use Rattle.bus_semantics.specs.Run.{history_of, orders_of, orders_of_script};
-ghost use Rattle.bus_semantics.specs.Spelling.{Letters};
-ghost use Rattle.script_reading.specs.Reading.{IsScriptBy};
-ghost use Rattle.script_reading.specs.Reserved.{saying_around};
+ghost use Rattle.bus_laws.specs.Common.{Line, Mapping};
+ghost use Rattle.bus_semantics.specs.Common.{Plan, IsSound, history_of, orders_of, orders_of_script, Letters};
+ghost use Rattle.script_reading.specs.Common.{IsScriptBy, saying_around};
 ghost use Rattle.signal_link.specs.declared.link_elem.LinkElem.{LinkElem};
 ghost use Rattle.pair_run.specs.Joint.{Joint, one, two, side_of};
 ghost use Rattle.pair_run.specs.Linked.{linked_in, links_of};

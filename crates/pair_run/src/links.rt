@@ -1,11 +1,9 @@
 //! Which elements of two nodes are linked.
 
 ghost use Rattle.std.specs.Prelude.{◌≡◌, ◌&&◌, ◌++◌, IfOk, OnOk, is_none, true};
-ghost use Rattle.std.specs.List.{list_all};
+ghost use Rattle.bus_semantics.specs.Common.{list_all, plan_of, IsSound};
 ghost use Rattle.std.specs.Option.{option_to_list};
 ghost use Rattle.bus_semantics.specs.declared.script.Mapping.{Mapping};
-ghost use Rattle.bus_semantics.specs.Plan.{plan_of};
-ghost use Rattle.bus_semantics.specs.Sound.{IsSound};
 ghost use Rattle.script_reading.specs.declared.forms.Form.TheVariants.{Receive};
 ghost use Rattle.script_reading.specs.Numbers.{HasFewNumbers};
 ghost use Rattle.script_reading.specs.Offers.{is_for};

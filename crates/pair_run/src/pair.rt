@@ -4,9 +4,7 @@ ghost use Rattle.std.specs.Prelude.{◌≡◌, ◌≢◌, ◌<◌, [], length, t
 ghost use Rattle.rte_text.specs.Sinks.{SinkFaultsAfter as PutFaultsAfter, ToldAfter as PutAfter};
 ghost use Rattle.bus_semantics.specs.declared.entries.Actor.TheVariants.{Env};
 ghost use Rattle.bus_semantics.specs.declared.script.Line.TheVariants as script_line;
-ghost use Rattle.bus_semantics.specs.Fitting.{wish_fits};
-ghost use Rattle.bus_semantics.specs.Plan.{plan_of};
-ghost use Rattle.bus_semantics.specs.Wanted.{wanted_of};
+ghost use Rattle.bus_semantics.specs.Common.{wish_fits, plan_of, wanted_of};
 ghost use Rattle.script_reading.specs.Meaning.{a_call};
 ghost use Rattle.signal_link.specs.Unframing.{fresh};
 ghost use Rattle.core_runtime.specs.Nodes.{IsLawfulNode, NodeState};

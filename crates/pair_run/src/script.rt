@@ -2,8 +2,7 @@
 
 ghost use Rattle.std.specs.Prelude.{◌≡◌, [], Some, IfOk};
 ghost use Rattle.bus_semantics.specs.declared.script.Mapping.{Mapping};
-ghost use Rattle.bus_semantics.specs.Plan.{plan_of};
-ghost use Rattle.bus_semantics.specs.Sound.{IsSound};
+ghost use Rattle.bus_semantics.specs.Common.{plan_of, IsSound};
 ghost use Rattle.line_fields.specs.Texts.{lines_of};
 ghost use Rattle.script_reading.specs.Numbers.{HasFewNumbers};
 ghost use Rattle.script_reading.specs.Reading.{IfBadLine, IfRead, IsScriptBy, first_bad};

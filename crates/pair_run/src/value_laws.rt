@@ -1,16 +1,9 @@
 //! The laws of sent values.
 
 ghost use Rattle.std.specs.Prelude.{◌≡◌, ◌≤◌, ◌++◌, ℕ, ℤ, List, [], ◌∷◌, length, slice_get, true, Some};
-ghost use Rattle.rte_value.specs.declared.value.Value.{Value};
-ghost use Rattle.rte_value.specs.Values.{words_of};
-ghost use Rattle.bus_semantics.specs.declared.script.Mapping.{Mapping};
+ghost use Rattle.bus_semantics.specs.Common.{Value, words_of, Plan, History, Past, noted, takes_at, accepted_at, places_at, IsLegal, IsSound};
+ghost use Rattle.bus_laws.specs.Common.{Mapping, Entry};
 ghost use Rattle.bus_semantics.specs.declared.entries.Deed.TheVariants as deed;
-ghost use Rattle.bus_semantics.specs.declared.entries.Entry.{Entry};
-ghost use Rattle.bus_semantics.specs.Plan.{Plan};
-ghost use Rattle.bus_semantics.specs.History.{History, Past, noted};
-ghost use Rattle.bus_semantics.specs.Queued.{takes_at, accepted_at, places_at};
-ghost use Rattle.bus_semantics.specs.Legal.{IsLegal};
-ghost use Rattle.bus_semantics.specs.Sound.{IsSound};
 ghost use Rattle.pair_run.specs.Sent.{takes, EnvironmentKeepsLimits, IsReceived, waiting_at};
 
 /// What a queue of a sound plan accepts, and what a Receive takes there, are values of its element: as many words as this

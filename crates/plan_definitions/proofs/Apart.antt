@@ -1,7 +1,6 @@
 -- Items with keys that differ, and how many of them pass a test.
 use Rattle.std.proofs.Common.{◌≡◌, ℕ, zero, suc, ◌+◌, ◌≤◌, List, [], ◌∷◌, ◌++◌, length, map, filter, Bool, true, false, cond, not, ◌&&◌, inl, inr, ⊎_elim, refl, sym, ap, ◌∙◌, true≢false, arith}
-use Rattle.description_types.specs.Members.{Among, AllApart}
-use Rattle.plan_definitions.specs.Lists.{from, positions}
+use Rattle.plan_definitions.specs.Common.{Among, AllApart, from, positions}
 use Rattle.plan_definitions.proofs.Lists.{cases, out_from, out_positions, unkept, unmapped}
 
 module _ {X K : Type 0} (key : X → K) where

@@ -1,27 +1,12 @@
 -- The two ends of a chain of connectors whose ports are all compatible: which way they face, and that the first serves the last.
 use Rattle.std.proofs.Common.{◌≡◌, ℕ, ◌+◌, List, [], ◌∷◌, Bool, true, false, ◌&&◌, if◌then◌else◌, Option, Some, None, option_map, option_and_then, ◌⊎◌, inl, inr, refl, sym, ap, subst, ◌∙◌, slice_get}
-use Rattle.std.proofs.lemmas.Bool.{and_parts}
-use Rattle.std.specs.Option.{option_map_or}
-use Rattle.description_types.specs.declared.interface.Interface.{Interface}
-use Rattle.description_types.specs.declared.interface.InterfaceKind.{InterfaceKind}
-use Rattle.description_types.specs.declared.interface.TypeTable.{TypeTable}
-use Rattle.description_types.specs.declared.component.Port.{Port}
-use Rattle.description_types.specs.declared.component.PortKind.{PortKind}
-use Rattle.description_types.specs.declared.component.PortKind.TheVariants.{Provided, Required}
-use Rattle.description_types.specs.declared.description.Composition.{Composition as Declared}
-use Rattle.description_types.specs.declared.description.Connector.{Connector}
-use Rattle.description_types.specs.declared.description.Connector.TheVariants.{Assembly, Delegation}
-use Rattle.description_types.specs.declared.description.Description.{Description}
-use Rattle.description_types.specs.declared.description.InnerPort.{InnerPort}
-use Rattle.description_types.specs.declared.description.Prototype.{Prototype}
+use Rattle.bus_semantics.specs.Common.{and_parts, option_map_or}
+use Rattle.plan_definitions.specs.Common.{Interface, InterfaceKind, TypeTable, Port, PortKind, Provided, Required, Composition as Declared, Connector, Assembly, Delegation, Description}
+use Rattle.plan_definitions.specs.Common.{InnerPort, Prototype, both, delegated, incompatible, incompatible_in, joins_compatible, are_compatible, serves_in, connectors_of, is_one_kind}
+use Rattle.plan_definitions.specs.Common.{is_required, kind_in, interface_at, Assembles, Delegates, IsBelow, Stand, StandsJoin, as_inner, Among, type_at, type_in}
 use Rattle.description_types.specs.declared.description.PrototypeType.TheVariants.{Composition}
-use Rattle.plan_definitions.specs.Connectors.{both, delegated, incompatible, incompatible_in, joins_compatible}
-use Rattle.plan_definitions.specs.Interfaces.{are_compatible, serves_in}
-use Rattle.description_types.specs.Connectors.{connectors_of, is_one_kind, is_provided, is_required, kind_in, kind_of, ports_of}
-use Rattle.description_types.specs.Items.{interface_at}
-use Rattle.description_types.specs.Joined.{Assembles, Delegates, IsBelow, Stand, StandsJoin, as_inner, further, itself}
-use Rattle.description_types.specs.Members.{Among}
-use Rattle.description_types.specs.Paths.{type_at, type_in}
+use Rattle.description_types.specs.Connectors.{is_provided, kind_of, ports_of}
+use Rattle.description_types.specs.Joined.{further, itself}
 use Rattle.plan_definitions.proofs.Lists.{place}
 use Rattle.plan_definitions.proofs.Stands.{kind_below, port_below}
 use Rattle.plan_definitions.proofs.Firsts.{first_none, map_none}

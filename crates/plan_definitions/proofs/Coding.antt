@@ -1,12 +1,8 @@
 -- Runnables of one code have one program and one signature.
 use Rattle.std.proofs.Common.{◌≡◌, ℕ, zero, suc, List, [], ◌∷◌, ◌++◌, Option, Some, None, slice_get, option_map, sym, ap, ◌∙◌, subst}
-use Rattle.std.specs.Option.{option_map_or}
+use Rattle.bus_semantics.specs.Common.{option_map_or, Coded, HaveOneCode, coded_of}
 use Rattle.bus_semantics.specs.declared.plan.RunnablePlan.{RunnablePlan}
-use Rattle.bus_semantics.specs.Codes.{Coded, HaveOneCode, coded_of}
-use Rattle.description_types.specs.declared.component.Component.{Component}
-use Rattle.description_types.specs.declared.component.Runnable.{Runnable}
-use Rattle.description_types.specs.declared.description.Description.{Description}
-use Rattle.plan_definitions.specs.Coding.{coded_in, coded_at, IsCoded, AreCoded}
+use Rattle.plan_definitions.specs.Common.{Component, Runnable, Description, coded_in, coded_at, IsCoded, AreCoded}
 
 module _ (d : Description) where
   -- none

@@ -1,13 +1,8 @@
 -- The numbers of keys: a key that is among some has the position of its first one, and two such keys of one number are the same.
-use Rattle.std.proofs.Common.{◌≡◌, ℕ, zero, suc, ◌+◌, ◌≤◌, List, [], ◌∷◌, Bool, true, false, cond, ◌&&◌, nat_eq, Option, Some, None, option_map, unwrap_or, inl, inr, ⊎_elim, refl, sym, ap, subst, ◌∙◌, true≢false, arith, slice_get}
-use Rattle.std.proofs.lemmas.Bool.{and_from, and_parts, cases_eq, eq-eqb, eqb-true, ne_eqb}
-use Rattle.std.specs.List.{position_from}
-use Rattle.std.specs.Option.{option_eq}
-use Rattle.description_types.specs.declared.flat.End.{End}
-use Rattle.description_types.specs.Members.{Among}
-use Rattle.plan_definitions.specs.declared.site.Site.{Site}
-use Rattle.plan_definitions.specs.Joined.{end_at, end_of, same_end}
-use Rattle.plan_definitions.specs.Keys.{Key, end_key, key_of, number_in, same_key, same_pair}
+use Rattle.std.proofs.Common.{◌≡◌, ℕ, zero, suc, ◌+◌, ◌≤◌, List, [], ◌∷◌, Bool, true, false, cond, ◌&&◌, nat_eq, Option, Some, None, option_map, unwrap_or, inl, inr, ⊎_elim, refl, sym, ap}
+use Rattle.std.proofs.Common.{subst, ◌∙◌, true≢false, arith, slice_get}
+use Rattle.bus_semantics.specs.Common.{and_from, and_parts, cases_eq, eq-eqb, eqb-true, ne_eqb, position_from, option_eq}
+use Rattle.plan_definitions.specs.Common.{End, Among, Site, end_at, end_of, same_end, Key, end_key, key_of, number_in, same_key, same_pair}
 
 pub same_number : (a b : Option ℕ) → option_eq nat_eq a b ≡ true → a ≡ b
 same_number None None h = refl

@@ -1,13 +1,7 @@
 -- Groups that lists connect, by their labels: the least of some labels, and what becomes of labels.
 use Rattle.std.proofs.Common.{◌≡◌, ℕ, zero, suc, ◌+◌, ◌≤◌, List, [], ◌∷◌, ◌++◌, length, map, get_or, min, Bool, true, false, cond, nat_eq, ◌==◌, ◌⊎◌, inl, inr, ⊎_elim, refl, sym, subst, ◌∙◌, arith}
-use Rattle.std.proofs.lemmas.Bool.{eq-eqb, eqb-true}
-use Rattle.std.proofs.lemmas.List.{length-append, length-map}
-use Rattle.std.specs.List.{list_all, list_any}
-use Rattle.description_types.specs.Members.{Among}
-use Rattle.bus_semantics.specs.Bundles.{least, leaders_by, leaders_on, together}
-use Rattle.bus_semantics.specs.Plan.{positions}
-use Rattle.plan_definitions.specs.ElementGroups.{group_number, groups, head_at, heads, members}
-use Rattle.plan_definitions.specs.Lists.{from}
+use Rattle.bus_semantics.specs.Common.{eq-eqb, eqb-true, length-append, length-map, list_all, list_any, least, leaders_by, leaders_on, together, positions}
+use Rattle.plan_definitions.specs.Common.{Among, group_number, groups, head_at, heads, members, from}
 use Rattle.plan_definitions.proofs.Lists.{all_at, any_at, any_from, as_many}
 
 -- ---- the least label

@@ -1,11 +1,8 @@
 -- What is in a list that is made of others, by its positions too, and what a test of such a list says of each of its items.
-use Rattle.std.proofs.Common.{◌≡◌, ℕ, zero, suc, ◌+◌, ◌<◌, List, [], ◌∷◌, ◌++◌, length, map, filter, Bool, true, false, cond, ◌||◌, ◌==◌, nat_eq, bytes_eq, is_some, Option, Some, None, ◌⊎◌, inl, inr, ⊎_elim, refl, sym, ap, subst, ◌∙◌, true≢false, arith, slice_get}
-use Rattle.std.proofs.lemmas.Bool.{and_from, and_parts, eq-eqb, eqb-true, false≢true, or_cases, or_left, or_parts, or_right}
-use Rattle.std.proofs.lemmas.List.{map-append}
-use Rattle.std.specs.List.{find, flat_map, list_all, list_any}
-use Rattle.bus_semantics.specs.SoundPlan.{same_numbers}
-use Rattle.description_types.specs.Members.{Among}
-use Rattle.plan_definitions.specs.Lists.{from, positions}
+use Rattle.std.proofs.Common.{◌≡◌, ℕ, zero, suc, ◌+◌, ◌<◌, List, [], ◌∷◌, ◌++◌, length, map, filter, Bool, true, false, cond, ◌||◌, ◌==◌, nat_eq, bytes_eq, is_some, Option, Some, None, ◌⊎◌}
+use Rattle.std.proofs.Common.{inl, inr, ⊎_elim, refl, sym, ap, subst, ◌∙◌, true≢false, arith, slice_get}
+use Rattle.bus_semantics.specs.Common.{and_from, and_parts, eq-eqb, eqb-true, false≢true, or_cases, or_left, or_parts, or_right, map-append, find, flat_map, list_all, list_any, same_numbers}
+use Rattle.plan_definitions.specs.Common.{Among, from, positions}
 
 module _ {X : Type 0} where
   pub left : (x : X) (xs ys : List X) → Among x xs → Among x (xs ++ ys)

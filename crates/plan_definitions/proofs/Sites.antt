@@ -2,22 +2,9 @@
 -- have one key.
 use Rattle.std.proofs.Common.{◌≡◌, ℕ, ◌+◌, ◌<◌, List, [], length, Option, Some, None, option_map, option_and_then, ◌⊎◌, inl, inr, ⊎_elim, refl, sym, ap, subst, ◌∙◌, arith, slice_get}
 use Rattle.std.specs.Option.{option_map_or}
-use Rattle.description_types.specs.declared.interface.Interface.{Interface}
-use Rattle.description_types.specs.declared.interface.TypeTable.{TypeTable}
-use Rattle.description_types.specs.declared.component.Component.{Component}
-use Rattle.description_types.specs.declared.component.Port.{Port}
-use Rattle.description_types.specs.declared.description.Description.{Description}
-use Rattle.description_types.specs.declared.flat.Flat.{Flat}
-use Rattle.description_types.specs.declared.flat.Instance.{Instance}
-use Rattle.description_types.specs.Members.{Among}
-use Rattle.plan_definitions.specs.declared.site.Site.{Site}
-use Rattle.plan_definitions.specs.declared.site.SiteKind.{SiteKind}
+use Rattle.plan_definitions.specs.Common.{Interface, TypeTable, Component, Port, Description, Flat, Instance, Among, Site, SiteKind, key_of, from, positions, component_of, count_at, kind_at}
+use Rattle.plan_definitions.specs.Common.{root_ports, shape_at, site, sites, sites_at, sites_of_component, sites_of_instance, sites_of_ports, sites_with, variables_of, port_of, ports_of}
 use Rattle.plan_definitions.specs.declared.site.SiteKind.TheVariants.{Variable}
-use Rattle.plan_definitions.specs.Keys.{key_of}
-use Rattle.plan_definitions.specs.Lists.{from, positions}
-use Rattle.plan_definitions.specs.Parts.{component_of}
-use Rattle.plan_definitions.specs.Sites.{count_at, kind_at, root_ports, shape_at, site, sites, sites_at, sites_of_component, sites_of_instance, sites_of_ports, sites_with, variables_of}
-use Rattle.plan_definitions.specs.Ports.{port_of, ports_of}
 use Rattle.plan_definitions.proofs.Apart.{Apart, apart_append, apart_from, apart_positions}
 use Rattle.plan_definitions.proofs.Lists.{cases, in_from, in_positions, left, mapped, out_from, out_positions, right, unmapped}
 

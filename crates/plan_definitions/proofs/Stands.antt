@@ -2,25 +2,10 @@
 use Rattle.std.proofs.Common.{◌≡◌, ℕ, zero, suc, ◌+◌, List, [], ◌∷◌, Option, Some, None, option_map, option_and_then, inl, inr, refl, sym, ap, subst, ◌∙◌, arith, slice_get}
 use Rattle.std.specs.List.{enumerate_from}
 use Rattle.std.specs.Option.{option_map_or}
-use Rattle.description_types.specs.declared.component.Component.{Component as DeclaredComponent}
-use Rattle.description_types.specs.declared.component.Port.{Port}
-use Rattle.description_types.specs.declared.component.PortKind.{PortKind}
-use Rattle.description_types.specs.declared.description.Description.{Description}
-use Rattle.description_types.specs.declared.description.Prototype.{Prototype}
-use Rattle.description_types.specs.declared.description.PrototypeType.{PrototypeType}
+use Rattle.plan_definitions.specs.Common.{Component as DeclaredComponent, Port, PortKind, Description, Prototype, PrototypeType, Flat, Instance, IsFlatOf, Place, places, places_below}
+use Rattle.plan_definitions.specs.Common.{places_of, instance_at, interface_at, Stand, interface_below, stand_in, Among, prototypes_of, type_at, type_in, component_of, port_of}
 use Rattle.description_types.specs.declared.description.PrototypeType.TheVariants.{Component, Composition}
-use Rattle.description_types.specs.declared.flat.Flat.{Flat}
-use Rattle.description_types.specs.declared.flat.Instance.{Instance}
 use Rattle.description_types.specs.Connectors.{interface_of, ports_of}
-use Rattle.description_types.specs.Flattening.{IsFlatOf}
-use Rattle.description_types.specs.Places.{Place, places, places_below, places_of}
-use Rattle.description_types.specs.Instances.{instance_at}
-use Rattle.description_types.specs.Items.{interface_at}
-use Rattle.description_types.specs.Joined.{Stand, interface_below, stand_in}
-use Rattle.description_types.specs.Members.{Among}
-use Rattle.description_types.specs.Paths.{prototypes_of, type_at, type_in}
-use Rattle.plan_definitions.specs.Parts.{component_of}
-use Rattle.plan_definitions.specs.Ports.{port_of}
 use Rattle.plan_definitions.proofs.Lists.{at, map_get, unflat}
 
 pub unnumbered : {X : Type 0} (n : ℕ) (xs : List X) (k : ℕ) (x : X) → Among (k, x) (enumerate_from n xs) → (i : ℕ) × (k ≡ n + i) × (slice_get xs i ≡ Some x)

@@ -1,9 +1,7 @@
 -- The turns of the loops that look for the first, and of those that list.
 use Rattle.std.proofs.Common.{◌≡◌, ℕ, zero, suc, ◌+◌, ◌<◌, ◌≤◌, List, [], ◌∷◌, ◌++◌, map, length, get_or, drop, ◌-◌, Option, Some, None, refl, sym, ap, ◌∙◌, arith, add-one, append_assoc}
-use Rattle.std.proofs.lemmas.List.{append-nil}
-use Rattle.std.specs.Option.{option_or}
-use Rattle.plan_definitions.specs.Firsts.{first_of}
-use Rattle.plan_definitions.specs.Lists.{from, positions}
+use Rattle.bus_semantics.specs.Common.{append-nil, option_or}
+use Rattle.plan_definitions.specs.Common.{first_of, from, positions}
 
 module _ {X Y : Type 0} (f : ℕ → X → Option Y) where
   first_next : (xs : List X) (n i : ℕ) (x : X) → i < length xs → x ≡ get_or xs i x

@@ -1,20 +1,12 @@
 -- Words within limits: of a base type's range, and 0 clamped to them.
-use Rattle.std.proofs.Common.{◌≡◌, ℕ, zero, suc, ◌≤◌, List, [], length, replicate, Bool, true, cond, ◌&&◌, ◌||◌, ◌==◌, ℤ, pos, negsuc, int_le, int_lt, Option, Some, None, unwrap_or, refl, ap, ◌∙◌, arith}
-use Rattle.std.proofs.lemmas.Bool.{and_from, and_parts, eq-eqb, eqb-true, le-leb, or_left, or_right}
+use Rattle.std.proofs.Common.{◌≡◌, ℕ, zero, suc, ◌≤◌, List, [], length, replicate, Bool, true, cond, ◌&&◌, ◌||◌, ◌==◌, ℤ, pos, negsuc, int_le, int_lt, Option, Some, None, unwrap_or, refl}
+use Rattle.std.proofs.Common.{ap, ◌∙◌, arith}
+use Rattle.bus_semantics.specs.Common.{and_from, and_parts, eq-eqb, eqb-true, le-leb, or_left, or_right, list_all, int_eq, Limits, clamped, same_words, limits_fit, zeros}
 use Rattle.std.proofs.lemmas.Bool.Decides.{Decides-int_eq}
 use Rattle.std.proofs.lemmas.Int.{ints}
-use Rattle.std.specs.List.{list_all}
-use Rattle.std.specs.Ordering.{int_eq}
-use Rattle.rte_value.specs.declared.kinds.Limits.{Limits}
-use Rattle.rte_value.specs.Arithmetic.{clamped}
-use Rattle.rte_value.specs.Values.{same_words}
-use Rattle.description_types.specs.declared.base_type.BaseType.{BaseType}
+use Rattle.plan_definitions.specs.Common.{BaseType, DataType, keeps_range, range_of, is_within, held, zeros as type_zeros}
 use Rattle.description_types.specs.declared.base_type.BaseType.TheVariants.{Boolean, Uint8, Uint16, Uint32, Sint8, Sint16, Sint32}
-use Rattle.description_types.specs.declared.base_type.DataType.{DataType}
-use Rattle.description_types.specs.Ranges.{keeps_range, range_of}
-use Rattle.description_types.specs.Initials.{fits, is_within}
-use Rattle.bus_semantics.specs.SoundElements.{limits_fit, zeros}
-use Rattle.plan_definitions.specs.Elements.{held, zeros as type_zeros}
+use Rattle.description_types.specs.Initials.{fits}
 
 pub le_then : (a b c : ℤ) → int_le a b ≡ true → int_le b c ≡ true → int_le a c ≡ true
 le_then a b c x y = grind (arith, ints)

@@ -1,7 +1,6 @@
 -- Whether accesses fit (Software Component Template: VariableAccess, ServerCallPoint, ModeAccessPoint, ModeSwitchPoint).
 use Rattle.std.specs.Prelude.{ℕ, List, Bool, true, false, Option, if◌then◌else◌}
-use Rattle.std.specs.Option.{option_map_or}
-use Rattle.runnable_lang.specs.declared.program.AccessKind.{AccessKind}
+use Rattle.bus_semantics.specs.Common.{option_map_or, AccessKind}
 use Rattle.runnable_lang.specs.declared.program.AccessKind.TheVariants as kind
 use Rattle.description_types.specs.declared.interface.SwImplPolicy.TheVariants.{Standard, Queued}
 use Rattle.description_types.specs.declared.interface.TypeTable.{TypeTable}

@@ -1,8 +1,6 @@
 -- Calls: who calls which operation (Software Component Template: ServerCallPoint).
 use Rattle.std.specs.Prelude.{ℕ, List, [], ◌∷◌, ◌++◌, map, length, Bool, true, false, ◌&&◌, nat_eq, Option, Some, None, option_map, slice_get, if◌then◌else◌}
-use Rattle.std.specs.List.{flat_map, position_from}
-use Rattle.std.specs.Option.{option_map_or, unwrap_or}
-use Rattle.runnable_lang.specs.declared.program.AccessKind.{AccessKind}
+use Rattle.bus_semantics.specs.Common.{flat_map, position_from, option_map_or, unwrap_or, AccessKind}
 use Rattle.runnable_lang.specs.declared.program.AccessKind.TheVariants as kind
 use Rattle.description_types.specs.declared.interface.InterfaceKind.{InterfaceKind}
 use Rattle.description_types.specs.declared.interface.InterfaceKind.TheVariants.{ClientServer}

@@ -1,8 +1,6 @@
 -- Calls that do not wait (Software Component Template: AsynchronousServerCallPoint, AsynchronousServerCallResultPoint).
 use Rattle.std.specs.Prelude.{ℕ, List, [], ◌∷◌, Bool, true, ◌==◌, nat_lt, Option}
-use Rattle.std.specs.List.{flat_map}
-use Rattle.std.specs.Option.{option_or}
-use Rattle.runnable_lang.specs.declared.program.AccessKind.{AccessKind}
+use Rattle.bus_semantics.specs.Common.{flat_map, option_or, AccessKind}
 use Rattle.runnable_lang.specs.declared.program.AccessKind.TheVariants as kind
 use Rattle.description_types.specs.declared.component.Access.{Access}
 use Rattle.description_types.specs.declared.component.Component.{Component}

@@ -1,10 +1,7 @@
 -- What the code of a runnable stands for: its component's runnable, whose program and signature all instances have.
 use Rattle.std.specs.Prelude.{◌≡◌, ℕ, List, Option, Some, None, option_map, slice_get}
-use Rattle.std.specs.Arc.{arc_value}
-use Rattle.std.specs.Option.{option_map_or}
-use Rattle.runnable_lang.specs.Trees.{program_tree}
+use Rattle.bus_semantics.specs.Common.{arc_value, option_map_or, program_tree, Coded, coded_of}
 use Rattle.bus_semantics.specs.declared.plan.RunnablePlan.{RunnablePlan}
-use Rattle.bus_semantics.specs.Codes.{Coded, coded_of}
 use Rattle.description_types.specs.declared.component.Component.{Component}
 use Rattle.description_types.specs.declared.component.Runnable.{Runnable}
 use Rattle.description_types.specs.declared.description.Description.{Description}

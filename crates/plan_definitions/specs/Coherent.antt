@@ -1,9 +1,7 @@
 -- Coherent access lists: items that a runnable fetches at one moment, or publishes at one. They are this project's own; the accesses
 -- are implicit ones (Software Component Template: VariableAccess in the role dataReadAccess or dataWriteAccess).
 use Rattle.std.specs.Prelude.{ℕ, List, [], ◌∷◌, map, length, sum_by, Bool, ◌&&◌, ◌||◌, ◌==◌, nat_lt, nat_le, Option, slice_get}
-use Rattle.std.specs.List.{flat_map, list_all}
-use Rattle.std.specs.Option.{option_map_or}
-use Rattle.runnable_lang.specs.declared.program.AccessKind.{AccessKind}
+use Rattle.bus_semantics.specs.Common.{flat_map, list_all, option_map_or, AccessKind, is_in}
 use Rattle.runnable_lang.specs.declared.program.AccessKind.TheVariants as kind
 use Rattle.description_types.specs.declared.interface.InterfaceKind.{InterfaceKind}
 use Rattle.description_types.specs.declared.interface.InterfaceKind.TheVariants.{SenderReceiver, ClientServer, ModeSwitch}
@@ -12,7 +10,6 @@ use Rattle.description_types.specs.declared.component.Access.{Access}
 use Rattle.description_types.specs.declared.component.Component.{Component}
 use Rattle.description_types.specs.declared.component.ItemPair.{ItemPair}
 use Rattle.description_types.specs.declared.component.Runnable.{Runnable}
-use Rattle.bus_semantics.specs.SoundPlan.{is_in}
 use Rattle.plan_definitions.specs.declared.spot.Spot.{Spot}
 use Rattle.plan_definitions.specs.declared.spot.Spot.TheVariants as spot
 use Rattle.plan_definitions.specs.Counts.{count, same_operation}

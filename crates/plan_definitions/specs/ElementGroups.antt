@@ -1,7 +1,6 @@
 -- Groups of data elements that joins connect (SWS_RTE: sender-receiver communication 1:n and n:1).
 use Rattle.std.specs.Prelude.{ℕ, List, [], ◌∷◌, length, map, min, nat_eq, Option, Some, None, if◌then◌else◌}
-use Rattle.std.specs.List.{position_from}
-use Rattle.std.specs.Option.{unwrap_or}
+use Rattle.bus_semantics.specs.Common.{position_from, unwrap_or}
 use Rattle.description_types.specs.declared.flat.End.{End}
 use Rattle.description_types.specs.declared.flat.Join.{Join}
 use Rattle.plan_definitions.specs.declared.site.Site.{Site}

@@ -1,9 +1,6 @@
 -- The elements of the plan: data elements of ports, and variables (Software Component Template: VariableDataPrototype).
 use Rattle.std.specs.Prelude.{ℕ, ℤ, pos, List, [], map, replicate, length, Bool, true, false, nat_le, slice_get, Option, Some, None, option_and_then, if◌then◌else◌}
-use Rattle.std.specs.Option.{option_map_or, unwrap_or}
-use Rattle.rte_value.specs.declared.kinds.Limits.{Limits}
-use Rattle.rte_value.specs.Arithmetic.{clamped}
-use Rattle.rte_value.specs.Values.{words_of as value_words}
+use Rattle.bus_semantics.specs.Common.{option_map_or, unwrap_or, Limits, clamped, words_of as value_words}
 use Rattle.description_types.specs.declared.base_type.DataType.{DataType}
 use Rattle.description_types.specs.declared.interface.DataElement.{DataElement}
 use Rattle.description_types.specs.declared.interface.InterfaceKind.{InterfaceKind}

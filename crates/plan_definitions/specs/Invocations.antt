@@ -1,7 +1,6 @@
 -- Who serves the operations of a component (Software Component Template: OperationInvokedEvent).
 use Rattle.std.specs.Prelude.{ℕ, List, [], ◌∷◌, map, length, Bool, true, ◌==◌, nat_eq, Option, slice_get}
-use Rattle.std.specs.List.{flat_map}
-use Rattle.std.specs.Option.{option_or, option_map_or}
+use Rattle.bus_semantics.specs.Common.{flat_map, option_or, option_map_or}
 use Rattle.description_types.specs.declared.interface.InterfaceKind.{InterfaceKind}
 use Rattle.description_types.specs.declared.interface.InterfaceKind.TheVariants.{ClientServer}
 use Rattle.description_types.specs.declared.interface.TypeTable.{TypeTable}

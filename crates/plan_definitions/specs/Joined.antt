@@ -1,7 +1,6 @@
 -- Who is joined with whom (VFB: connectors).
 use Rattle.std.specs.Prelude.{ℕ, List, [], ◌∷◌, ◌++◌, Bool, ◌&&◌, ◌||◌, nat_eq, Option, option_map, if◌then◌else◌}
-use Rattle.std.specs.List.{find, flat_map, list_any}
-use Rattle.std.specs.Option.{option_eq}
+use Rattle.bus_semantics.specs.Common.{find, flat_map, list_any, option_eq}
 use Rattle.description_types.specs.declared.flat.End.{End}
 use Rattle.description_types.specs.declared.flat.Join.{Join}
 use Rattle.plan_definitions.specs.declared.site.Site.{Site}

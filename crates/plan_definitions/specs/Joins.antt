@@ -1,7 +1,6 @@
 -- Who is joined with whom (SWS_RTE, communication between ports: 1:n and n:1).
 use Rattle.std.specs.Prelude.{List, [], ◌∷◌, map, filter, Bool, true, false, ◌&&◌, not, nat_eq}
-use Rattle.std.specs.List.{list_any}
-use Rattle.std.specs.Option.{option_eq}
+use Rattle.bus_semantics.specs.Common.{list_any, option_eq}
 use Rattle.description_types.specs.declared.flat.End.{End}
 use Rattle.description_types.specs.declared.flat.Join.{Join}
 

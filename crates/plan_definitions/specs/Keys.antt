@@ -1,7 +1,6 @@
 -- The numbers of things: their positions in the lists of a plan.
 use Rattle.std.specs.Prelude.{ℕ, List, map, filter, Bool, true, false, ◌&&◌, nat_eq, Option, Some}
-use Rattle.std.specs.List.{position_from}
-use Rattle.std.specs.Option.{option_eq, unwrap_or}
+use Rattle.bus_semantics.specs.Common.{position_from, option_eq, unwrap_or}
 use Rattle.description_types.specs.declared.description.Description.{Description}
 use Rattle.description_types.specs.declared.flat.End.{End}
 use Rattle.description_types.specs.declared.flat.Flat.{Flat}

@@ -46,3 +46,4 @@ pub mod Types
 pub mod WellFormed
 pub mod Whole
 pub mod Counts
+pub mod Common

@@ -1,7 +1,6 @@
 -- The coherent access lists of instances, and the bundles that these make of groups. Both are this project's own.
 use Rattle.std.specs.Prelude.{ℕ, List, [], ◌∷◌, map, length, slice_get, Bool, true, false, Option, Some, option_and_then}
-use Rattle.std.specs.List.{flat_map}
-use Rattle.std.specs.Option.{option_map_or}
+use Rattle.bus_semantics.specs.Common.{flat_map, option_map_or, leaders_by}
 use Rattle.description_types.specs.declared.component.ItemPair.{ItemPair}
 use Rattle.description_types.specs.declared.component.Port.{Port}
 use Rattle.description_types.specs.declared.component.PortKind.{PortKind}
@@ -10,7 +9,6 @@ use Rattle.description_types.specs.declared.component.Runnable.{Runnable}
 use Rattle.description_types.specs.declared.description.Description.{Description}
 use Rattle.description_types.specs.declared.flat.Flat.{Flat}
 use Rattle.bus_semantics.specs.declared.plan.CoherentList.{CoherentList}
-use Rattle.bus_semantics.specs.Bundles.{leaders_by}
 use Rattle.plan_definitions.specs.Elements.{Elem, elements, leaders}
 use Rattle.plan_definitions.specs.ElementGroups.{all_members, group_number, groups}
 use Rattle.plan_definitions.specs.Lists.{from}

@@ -3,8 +3,7 @@ use Rattle.std.specs.Prelude.{ℕ, List, map, filter, Bool, false, ◌&&◌, nat
 use Rattle.description_types.specs.declared.component.Component.{Component}
 use Rattle.description_types.specs.declared.component.EventKind.{EventKind}
 use Rattle.description_types.specs.declared.component.EventKind.TheVariants.{OperationInvoked}
-use Rattle.std.specs.List.{list_any, position_from}
-use Rattle.std.specs.Option.{option_map_or}
+use Rattle.bus_semantics.specs.Common.{list_any, position_from, option_map_or}
 use Rattle.description_types.specs.declared.description.Description.{Description}
 use Rattle.description_types.specs.declared.description.MappedEvent.{MappedEvent}
 use Rattle.description_types.specs.declared.flat.Flat.{Flat}

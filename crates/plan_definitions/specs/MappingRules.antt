@@ -1,8 +1,7 @@
 -- What the mapping and the instances must keep.
-use Rattle.std.specs.Prelude.{◌≡◌, ℕ, zero, suc, ◌+◌, List, [], ◌∷◌, ◌++◌, map, length, Bool, true, false, not, ◌&&◌, ◌||◌, ◌==◌, ◌<◌, nat_eq, nat_le, is_some, is_none, slice_get, Option, Some, option_and_then, if◌then◌else◌}
-use Rattle.std.specs.List.{flat_map, list_all, list_any}
-use Rattle.std.specs.Option.{option_map_or}
-use Rattle.runnable_lang.specs.declared.program.AccessKind.{AccessKind}
+use Rattle.std.specs.Prelude.{◌≡◌, ℕ, zero, suc, ◌+◌, List, [], ◌∷◌, ◌++◌, map, length, Bool, true, false, not, ◌&&◌, ◌||◌, ◌==◌, ◌<◌, nat_eq, nat_le, is_some, is_none, slice_get, Option}
+use Rattle.std.specs.Prelude.{Some, option_and_then, if◌then◌else◌}
+use Rattle.bus_semantics.specs.Common.{flat_map, list_all, list_any, option_map_or, AccessKind}
 use Rattle.runnable_lang.specs.declared.program.AccessKind.TheVariants as kind
 use Rattle.description_types.specs.declared.component.Access.{Access}
 use Rattle.description_types.specs.declared.component.Component.{Component}

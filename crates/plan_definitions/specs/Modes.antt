@@ -1,7 +1,6 @@
 -- Mode machines, and who requires them (Software Component Template: ModeDeclarationGroupPrototype).
 use Rattle.std.specs.Prelude.{ℕ, ◌==◌, List, [], map, Bool, true, false, not, ◌&&◌, ◌||◌, Option, Some, None, is_some, option_and_then, slice_get}
-use Rattle.std.specs.List.{list_any}
-use Rattle.std.specs.Option.{option_map_or, unwrap_or}
+use Rattle.bus_semantics.specs.Common.{list_any, option_map_or, unwrap_or}
 use Rattle.description_types.specs.declared.interface.InterfaceKind.{InterfaceKind}
 use Rattle.description_types.specs.declared.interface.InterfaceKind.TheVariants.{ModeSwitch}
 use Rattle.description_types.specs.declared.interface.ModeGroup.{ModeGroup}

@@ -1,7 +1,7 @@
 -- The plan of a description made flat (Software Component Template, flattened): each list by instance and in declared order, what
 -- belongs to the environment last.
 use Rattle.std.specs.Prelude.{ℕ, List, [], map, length, ◌+◌, slice_get}
-use Rattle.std.specs.Option.{option_map_or}
+use Rattle.bus_semantics.specs.Common.{option_map_or, Runnable, runnable_of}
 use Rattle.description_types.specs.declared.description.Description.{Description}
 use Rattle.description_types.specs.declared.flat.Flat.{Flat}
 use Rattle.description_types.specs.declared.flat.Instance.{Instance}
@@ -14,7 +14,6 @@ use Rattle.bus_semantics.specs.declared.plan.MachinePlan.{MachinePlan}
 use Rattle.bus_semantics.specs.declared.plan.ModePortPlan.{ModePortPlan}
 use Rattle.bus_semantics.specs.declared.plan.PointPlan.{PointPlan}
 use Rattle.bus_semantics.specs.declared.plan.ServerPlan.{ServerPlan}
-use Rattle.bus_semantics.specs.Plan.{Runnable, runnable_of}
 use Rattle.plan_definitions.specs.Elements.{Elem, elem_seen, elements, leaders}
 use Rattle.plan_definitions.specs.ElementGroups.{groups}
 use Rattle.plan_definitions.specs.Listed.{bundles, homes, lists}

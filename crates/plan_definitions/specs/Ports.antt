@@ -1,8 +1,7 @@
 -- The ports of instances and of the environment, and what they say of their items (Software Component Template: PPortComSpec,
 -- RPortComSpec).
 use Rattle.std.specs.Prelude.{ℕ, List, [], ◌++◌, nat_eq, codes, slice_get, Option, Some, None, option_map, option_and_then}
-use Rattle.std.specs.List.{find}
-use Rattle.std.specs.Option.{option_map_or}
+use Rattle.bus_semantics.specs.Common.{find, option_map_or}
 use Rattle.description_types.specs.declared.interface.ComSpec.{ComSpec}
 use Rattle.description_types.specs.declared.interface.InterfaceKind.{InterfaceKind}
 use Rattle.description_types.specs.declared.interface.InterfaceKind.TheVariants.{SenderReceiver, ClientServer, ModeSwitch}

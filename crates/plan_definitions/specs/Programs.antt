@@ -1,8 +1,6 @@
 -- What is refused of programs (the rules of `runnable_lang`).
 use Rattle.std.specs.Prelude.{ℕ, List, Bool, true, ◌==◌, Option, Some, None, option_map, option_and_then, if◌then◌else◌}
-use Rattle.std.specs.Arc.{arc_value}
-use Rattle.runnable_lang.specs.Refusals.{refusal}
-use Rattle.runnable_lang.specs.Trees.{program_tree}
+use Rattle.bus_semantics.specs.Common.{arc_value, refusal, program_tree}
 use Rattle.description_types.specs.declared.interface.TypeTable.{TypeTable}
 use Rattle.description_types.specs.declared.component.Component.{Component}
 use Rattle.description_types.specs.declared.component.Runnable.{Runnable}

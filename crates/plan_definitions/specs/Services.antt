@@ -1,7 +1,6 @@
 -- Servers and points (Software Component Template: OperationInvokedEvent, ServerCallPoint).
 use Rattle.std.specs.Prelude.{ℕ, List, [], map, Bool, true, false, Option, Some, None, option_map, option_and_then, slice_get, if◌then◌else◌}
-use Rattle.std.specs.Option.{option_map_or, unwrap_or}
-use Rattle.rte_value.specs.declared.kinds.Limits.{Limits}
+use Rattle.bus_semantics.specs.Common.{option_map_or, unwrap_or, Limits}
 use Rattle.description_types.specs.declared.interface.Argument.{Argument}
 use Rattle.description_types.specs.declared.interface.Direction.{Direction}
 use Rattle.description_types.specs.declared.interface.Direction.TheVariants.{In, Out}

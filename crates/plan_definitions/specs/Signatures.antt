@@ -1,11 +1,8 @@
 -- What a runnable may access, with the limits of the words that go through each access (SWS_RTE: the signatures of the RTE's
 -- calls).
 use Rattle.std.specs.Prelude.{ℕ, pos, List, [], map, filter, replicate, Bool, true, false, Option, slice_get, option_map, option_and_then}
-use Rattle.std.specs.Option.{option_map_or}
-use Rattle.rte_value.specs.declared.kinds.Limits.{Limits}
-use Rattle.runnable_lang.specs.declared.program.AccessKind.{AccessKind}
+use Rattle.bus_semantics.specs.Common.{option_map_or, Limits, AccessKind, AccessSig}
 use Rattle.runnable_lang.specs.declared.program.AccessKind.TheVariants as kind
-use Rattle.runnable_lang.specs.declared.program.AccessSig.{AccessSig}
 use Rattle.description_types.specs.declared.base_type.DataType.{DataType}
 use Rattle.description_types.specs.declared.interface.Argument.{Argument}
 use Rattle.description_types.specs.declared.interface.Direction.{Direction}

@@ -1,10 +1,7 @@
 -- Events and runnables of instances (Software Component Template: RTEEvent, RunnableEntity).
 use Rattle.std.specs.Prelude.{ℕ, List, [], ◌∷◌, map, get_or, nat_eq, Option, Some, None, option_map, if◌then◌else◌}
-use Rattle.std.specs.Arc.{arc_value}
-use Rattle.std.specs.Option.{option_map_or}
-use Rattle.runnable_lang.specs.declared.program.AccessKind.{AccessKind}
+use Rattle.bus_semantics.specs.Common.{arc_value, option_map_or, AccessKind, program_tree, Runnable}
 use Rattle.runnable_lang.specs.declared.program.AccessKind.TheVariants as kind
-use Rattle.runnable_lang.specs.Trees.{program_tree}
 use Rattle.description_types.specs.declared.component.Access.{Access}
 use Rattle.description_types.specs.declared.component.Component.{Component}
 use Rattle.description_types.specs.declared.component.DisabledInModes.{DisabledInModes}
@@ -22,7 +19,6 @@ use Rattle.bus_semantics.specs.declared.plan.EventKind.TheVariants.{Timing, Init
 use Rattle.bus_semantics.specs.declared.plan.EventPlan.{EventPlan}
 use Rattle.bus_semantics.specs.declared.plan.Moment.{Moment}
 use Rattle.bus_semantics.specs.declared.plan.Moment.TheVariants as moment
-use Rattle.bus_semantics.specs.Plan.{Runnable}
 use Rattle.plan_definitions.specs.Signatures.{signature}
 use Rattle.plan_definitions.specs.Listed.{list_numbers}
 use Rattle.plan_definitions.specs.Lists.{from}

@@ -2,12 +2,8 @@
 -- them; numbers lie in their ranges; what refers to something has a position in the list that declares it; types and initial
 -- values fit.
 use Rattle.std.specs.Prelude.{◌≡◌, ℕ, List, [], ◌∷◌, map, length, Bool, true, false, not, ◌&&◌, ◌||◌, ◌==◌, nat_lt, nat_le, slice_get, Option, Some, None}
-use Rattle.std.specs.Arc.{arc_value}
-use Rattle.std.specs.List.{list_all, list_any}
-use Rattle.std.specs.Option.{option_map_or}
-use Rattle.runnable_lang.specs.declared.program.AccessKind.{AccessKind}
+use Rattle.bus_semantics.specs.Common.{arc_value, list_all, list_any, option_map_or, AccessKind, program_tree, is_name, is_in, same_numbers, is_well_formed, same_kind}
 use Rattle.runnable_lang.specs.declared.program.AccessKind.TheVariants as kind
-use Rattle.runnable_lang.specs.Trees.{program_tree}
 use Rattle.description_types.specs.declared.base_type.DataType.{DataType}
 use Rattle.description_types.specs.declared.interface.ComSpec.{ComSpec}
 use Rattle.description_types.specs.declared.interface.DataElement.{DataElement}
@@ -36,10 +32,6 @@ use Rattle.description_types.specs.declared.description.PrototypeType.{Prototype
 use Rattle.description_types.specs.declared.description.PrototypeType.TheVariants as of
 use Rattle.description_types.specs.declared.description.Task.{Task}
 use Rattle.description_types.specs.Initials.{keeps, keeps_element}
-use Rattle.bus_semantics.specs.SoundNames.{is_name}
-use Rattle.bus_semantics.specs.SoundPlan.{is_in, same_numbers}
-use Rattle.bus_semantics.specs.SoundPrograms.{is_well_formed}
-use Rattle.bus_semantics.specs.State.{same_kind}
 
 -- each name of a list is a name, and no other one of it is the same
 abbrev pub distinct : List (List ℕ) → Bool

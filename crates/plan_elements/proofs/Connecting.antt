@@ -1,11 +1,9 @@
 -- What becomes of labels, one list after the other.
 use Rattle.std.proofs.Common.{◌≡◌, ℕ, ◌+◌, ◌^◌, ◌<◌, ◌≤◌, List, [], ◌∷◌, map, length, get_or, drop, Bool, true, false, ◌==◌, cond, Option, Some, None, inl, refl, sym, ap, ◌∙◌, arith}
-use Rattle.std.proofs.lemmas.List.{at_drop_more, at_drop_all, length-map}
-use Rattle.std.specs.List.{list_all}
+use Rattle.bus_semantics.specs.Common.{length-map, list_all, least, leaders_on, together}
+use Rattle.std.proofs.lemmas.List.{at_drop_more, at_drop_all}
 use Rattle.bus_semantics.specs.declared.plan.CoherentList.{CoherentList}
-use Rattle.bus_semantics.specs.Bundles.{least, leaders_on, together}
-use Rattle.plan_definitions.specs.Elements.{Elem}
-use Rattle.plan_definitions.specs.Listed.{groups_listed}
+use Rattle.plan_definitions.specs.Common.{Elem, groups_listed}
 use Rattle.plan_definitions.proofs.Labels.{comes, label, low_label, many_leaders, one_label}
 use Rattle.plan_elements.specs.Bundled.{leaders_over, lowest}
 

@@ -1,15 +1,8 @@
 -- Elements that 32 bits number, and their groups.
 use Rattle.std.proofs.Common.{◌≡◌, ℕ, ◌^◌, ◌<◌, List, length, map, Option, Some, sym, ap, ◌∙◌, arith}
-use Rattle.std.specs.List.{position_from}
-use Rattle.std.proofs.lemmas.List.{length-map}
-use Rattle.description_types.specs.declared.description.Description.{Description}
-use Rattle.description_types.specs.declared.flat.Flat.{Flat}
+use Rattle.bus_semantics.specs.Common.{position_from, length-map}
+use Rattle.plan_definitions.specs.Common.{Description, Flat, group_number, leader_of, leaders, Key, key_of, keys_of, same_key, HasFewThings, elements_of}
 use Rattle.plan_definitions.specs.declared.site.Site.{Site}
-use Rattle.plan_definitions.specs.ElementGroups.{group_number, leader_of}
-use Rattle.plan_definitions.specs.Elements.{leaders}
-use Rattle.plan_definitions.specs.Keys.{Key, key_of, keys_of, same_key}
-use Rattle.plan_definitions.specs.Sizes.{HasFewThings}
-use Rattle.plan_definitions.specs.Things.{elements_of}
 use Rattle.plan_elements.proofs.Keys.{position_least}
 
 -- as many as there are elements

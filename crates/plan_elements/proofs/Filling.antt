@@ -1,9 +1,7 @@
 -- Lists of groups, filled one element at a time.
 use Rattle.std.proofs.Common.{◌≡◌, ℕ, zero, suc, ◌+◌, ◌<◌, List, [], ◌∷◌, ◌++◌, map, length, get_or, set, take, replicate, cond, nat_eq, refl, sym, ap, ◌∙◌, arith, add-zero, append_assoc, length-take}
-use Rattle.std.proofs.lemmas.Bool.{eq-eqb, ne_eqb}
-use Rattle.std.proofs.lemmas.List.{append-nil, get_or-map, map-set, take_more}
-use Rattle.plan_definitions.specs.Lists.{from, positions}
-use Rattle.plan_definitions.specs.ElementGroups.{all_members, member_at, members}
+use Rattle.bus_semantics.specs.Common.{eq-eqb, ne_eqb, append-nil, get_or-map, map-set, take_more}
+use Rattle.plan_definitions.specs.Common.{from, positions, all_members, member_at, members}
 use Rattle.plan_elements.specs.Lists.{put_in}
 
 -- no group has an element yet

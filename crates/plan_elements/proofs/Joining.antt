@@ -1,17 +1,8 @@
 -- The marks at the places of ends tell of each element whether a join has it as an end.
 use Rattle.std.proofs.Common.{◌≡◌, ℕ, ◌<◌, ◌≤◌, List, [], ◌∷◌, map, length, drop, get_or, Bool, true, false, ◌||◌, nat_eq, Option, Some, None, refl, sym, ap, ◌∙◌, arith}
-use Rattle.std.proofs.lemmas.Bool.{true≢false}
-use Rattle.std.proofs.lemmas.List.{at_drop_all, get_or-map, get_or_default, length-map, same_lists}
-use Rattle.std.specs.List.{list_any, position_from}
-use Rattle.std.specs.Option.{option_eq}
-use Rattle.description_types.specs.declared.description.Description.{Description}
-use Rattle.description_types.specs.declared.flat.End.{End}
-use Rattle.description_types.specs.declared.flat.Flat.{Flat}
-use Rattle.description_types.specs.declared.flat.Join.{Join}
-use Rattle.plan_definitions.specs.Joined.{end_at}
-use Rattle.plan_definitions.specs.Keys.{Key, end_key, keys_of, same_key}
-use Rattle.plan_definitions.specs.Sites.{site}
-use Rattle.plan_definitions.specs.Things.{elements_of}
+use Rattle.bus_semantics.specs.Common.{true≢false, get_or-map, length-map, list_any, position_from, option_eq}
+use Rattle.std.proofs.lemmas.List.{at_drop_all, get_or_default, same_lists}
+use Rattle.plan_definitions.specs.Common.{Description, End, Flat, Join, end_at, Key, end_key, keys_of, same_key, site, elements_of}
 use Rattle.plan_definitions.specs.declared.site.SiteKind.{SiteKind}
 use Rattle.plan_definitions.specs.declared.site.SiteKind.TheVariants.{Variable}
 use Rattle.plan_definitions.proofs.Keys.{same_key_is, same_key_refl, same_number_refl, same_number}

@@ -1,23 +1,13 @@
 -- The least number in the group of each element, found by numbers.
-use Rattle.std.proofs.Common.{◌≡◌, ℕ, zero, suc, ◌+◌, ◌<◌, ◌≤◌, ◌-◌, List, [], ◌∷◌, ◌++◌, append_assoc, map, length, get_or, min, Bool, true, false, cond, nat_eq, Option, Some, None, refl, sym, ap, ◌∙◌, arith}
-use Rattle.std.specs.List.{flat_map, position_from}
-use Rattle.std.specs.Option.{option_eq, unwrap_or}
-use Rattle.std.proofs.lemmas.List.{get_or-map, length-map, map-append}
+use Rattle.std.proofs.Common.{◌≡◌, ℕ, zero, suc, ◌+◌, ◌<◌, ◌≤◌, ◌-◌, List, [], ◌∷◌, ◌++◌, append_assoc, map, length, get_or, min, Bool, true, false, cond, nat_eq, Option, Some, None, refl}
+use Rattle.std.proofs.Common.{sym, ap, ◌∙◌, arith}
+use Rattle.bus_semantics.specs.Common.{flat_map, position_from, option_eq, unwrap_or, get_or-map, length-map, map-append, eqb-true, eq-eqb, true≢false}
 use Rattle.std.proofs.lemmas.Grind.{same_number_lists}
-use Rattle.std.proofs.lemmas.Bool.{eqb-true, eq-eqb, true≢false}
-use Rattle.description_types.specs.declared.description.Description.{Description}
-use Rattle.description_types.specs.declared.flat.End.{End}
-use Rattle.description_types.specs.declared.flat.Flat.{Flat}
-use Rattle.description_types.specs.declared.flat.Join.{Join}
+use Rattle.plan_definitions.specs.Common.{Description, End, Flat, Join, leaders, Key, end_key, key_of, keys_of, number_in, same_key, positions, site, elements_of, leader_of, least, nearest}
+use Rattle.plan_definitions.specs.Common.{own_number}
 use Rattle.plan_definitions.specs.declared.site.Site.{Site}
 use Rattle.plan_definitions.specs.declared.site.SiteKind.{SiteKind}
 use Rattle.plan_definitions.specs.declared.site.SiteKind.TheVariants.{Variable}
-use Rattle.plan_definitions.specs.Elements.{leaders}
-use Rattle.plan_definitions.specs.Keys.{Key, end_key, key_of, keys_of, number_in, same_key}
-use Rattle.plan_definitions.specs.Lists.{positions}
-use Rattle.plan_definitions.specs.Sites.{site}
-use Rattle.plan_definitions.specs.Things.{elements_of}
-use Rattle.plan_definitions.specs.ElementGroups.{leader_of, least, nearest, own_number}
 use Rattle.plan_definitions.proofs.Keys.{same_key_is, same_key_refl}
 use Rattle.plan_elements.proofs.Keys.{and_none, position_least, same_place}
 use Rattle.plan_elements.proofs.Standing.{own_place}

@@ -1,14 +1,8 @@
 -- Instances that 32 bits number.
 use Rattle.std.proofs.Common.{◌≡◌, ℕ, ◌+◌, ◌<◌, ◌^◌, List, length, get_or, ap, subst, arith}
 use Rattle.std.proofs.lemmas.Option.{slice_get-get_or, slice_get_within}
-use Rattle.description_types.specs.declared.description.Description.{Description}
-use Rattle.description_types.specs.declared.flat.Flat.{Flat}
-use Rattle.description_types.specs.declared.flat.Instance.{Instance}
-use Rattle.description_types.specs.Members.{Among}
+use Rattle.plan_definitions.specs.Common.{Description, Flat, Instance, Among, positions, counted_at, numbered, runnables_of, HasFewThings}
 use Rattle.plan_definitions.specs.declared.part.Part.TheVariants.{Runnables}
-use Rattle.plan_definitions.specs.Lists.{positions}
-use Rattle.plan_definitions.specs.Parts.{counted_at, numbered, runnables_of}
-use Rattle.plan_definitions.specs.Sizes.{HasFewThings}
 use Rattle.plan_definitions.proofs.Lists.{at, out_from, unmapped}
 
 module _ (d : Description) (f : Flat) (xs : List (ℕ × ℕ)) (are : xs ≡ runnables_of d f) (few : HasFewThings d f) where

@@ -2,9 +2,7 @@
 use Rattle.std.proofs.Common.{◌≡◌, ℕ, zero, suc, ◌+◌, ◌<◌, ◌≤◌, List, [], ◌∷◌, ◌++◌, length, drop, get_or, replicate, subst, take, Bool, true, false, ◌||◌, refl, sym, ap, ◌∙◌}
 use Rattle.std.proofs.lemmas.List.{at_drop_more}
 use Rattle.std.specs.List.{list_any}
-use Rattle.description_types.specs.declared.flat.Join.{Join}
-use Rattle.plan_definitions.specs.ElementGroups.{own_number}
-use Rattle.plan_definitions.specs.Keys.{Key}
+use Rattle.plan_definitions.specs.Common.{Join, own_number, Key}
 use Rattle.plan_elements.proofs.Mapped.{mapped_all, mapped_more}
 use Rattle.plan_elements.specs.Ends.{has_at, mark_at, pairs_of}
 

@@ -1,10 +1,8 @@
 -- The number of the group that an element leads, found at its own number.
 use Rattle.std.proofs.Common.{◌≡◌, ℕ, zero, suc, ◌+◌, ◌<◌, ◌≤◌, List, [], ◌∷◌, ◌++◌, map, length, drop, get_or, Bool, true, false, cond, nat_eq, Some, None, unwrap_or, refl, sym, ap, ◌∙◌, arith}
-use Rattle.std.proofs.lemmas.Bool.{eq-eqb, ne_eqb}
-use Rattle.std.proofs.lemmas.List.{at_drop_more, at_drop_all, append_assoc, append-nil}
-use Rattle.std.specs.List.{position_from}
-use Rattle.plan_definitions.specs.ElementGroups.{head_at, heads, number_among}
-use Rattle.plan_definitions.specs.Lists.{from}
+use Rattle.bus_semantics.specs.Common.{eq-eqb, ne_eqb, append-nil, position_from}
+use Rattle.std.proofs.lemmas.List.{at_drop_more, at_drop_all, append_assoc}
+use Rattle.plan_definitions.specs.Common.{head_at, heads, number_among, from}
 use Rattle.plan_elements.specs.Lists.{ranks}
 use Rattle.plan_elements.specs.Spreads.{number_at}
 

@@ -1,13 +1,8 @@
 -- Each element stands at its own number: no two sites have one key.
 use Rattle.std.proofs.Common.{◌≡◌, ℕ, zero, suc, ◌+◌, ◌<◌, List, [], ◌∷◌, length, get_or, Bool, true, false, cond, Some, inl, inr, refl, sym, ap, ◌∙◌, arith}
 use Rattle.std.specs.List.{position_from}
-use Rattle.description_types.specs.declared.description.Description.{Description}
-use Rattle.description_types.specs.declared.flat.Flat.{Flat}
-use Rattle.description_types.specs.Members.{Among}
+use Rattle.plan_definitions.specs.Common.{Description, Flat, Among, is_element, key_of, keys_of, same_key, sites, elements_of}
 use Rattle.plan_definitions.specs.declared.site.Site.{Site}
-use Rattle.plan_definitions.specs.Keys.{is_element, key_of, keys_of, same_key}
-use Rattle.plan_definitions.specs.Sites.{sites}
-use Rattle.plan_definitions.specs.Things.{elements_of}
 use Rattle.plan_definitions.proofs.Apart.{Apart, apart_filter}
 use Rattle.plan_definitions.proofs.Keys.{same_key_is, same_key_refl}
 use Rattle.plan_definitions.proofs.Sites.{sites_apart}

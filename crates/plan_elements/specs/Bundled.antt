@@ -1,10 +1,8 @@
 -- The labels of groups that lists connect.
 use Rattle.std.specs.Prelude.{ℕ, List, map, slice_get, ◌==◌, if◌then◌else◌, Option, Some, None, option_and_then}
-use Rattle.std.specs.List.{list_all}
+use Rattle.bus_semantics.specs.Common.{list_all, least, leaders_by}
 use Rattle.bus_semantics.specs.declared.plan.CoherentList.{CoherentList}
-use Rattle.bus_semantics.specs.Bundles.{least, leaders_by}
-use Rattle.plan_definitions.specs.Elements.{Elem}
-use Rattle.plan_definitions.specs.Listed.{groups_listed}
+use Rattle.plan_definitions.specs.Common.{Elem, groups_listed}
 
 abbrev pub leaders_over : List Elem → List CoherentList → (groups : ℕ) → List ℕ
 leaders_over es lists n = leaders_by n (map (groups_listed es) lists)

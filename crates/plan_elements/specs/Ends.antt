@@ -1,16 +1,8 @@
 -- The ends of joins, as they are found: their numbers, and the elements that they are.
 use Rattle.std.specs.Prelude.{◌≡◌, ℕ, List, map, Bool, false, ◌||◌, nat_eq, slice_index_or, Some}
-use Rattle.std.specs.List.{position_from}
-use Rattle.std.specs.Option.{option_eq, option_map_or}
-use Rattle.description_types.specs.declared.description.Description.{Description}
-use Rattle.description_types.specs.declared.flat.End.{End}
-use Rattle.description_types.specs.declared.flat.Flat.{Flat}
-use Rattle.description_types.specs.declared.flat.Join.{Join}
+use Rattle.bus_semantics.specs.Common.{position_from, option_eq, option_map_or}
+use Rattle.plan_definitions.specs.Common.{Description, End, Flat, Join, own_number, end_of, is_joined, Key, end_key, same_key, elements_of}
 use Rattle.plan_definitions.specs.declared.site.Site.{Site}
-use Rattle.plan_definitions.specs.ElementGroups.{own_number}
-use Rattle.plan_definitions.specs.Joined.{end_of, is_joined}
-use Rattle.plan_definitions.specs.Keys.{Key, end_key, same_key}
-use Rattle.plan_definitions.specs.Things.{elements_of}
 
 -- the numbers of the ends of each join, the provided one first
 abbrev pub pairs_of : List Key → List Join → List (ℕ × ℕ)

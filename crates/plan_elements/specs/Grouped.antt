@@ -1,10 +1,7 @@
 -- The groups of a description, as they are kept.
 use Rattle.std.specs.Prelude.{◌≡◌, length, map}
-use Rattle.description_types.specs.declared.flat.Flat.{Flat}
-use Rattle.description_types.specs.declared.description.Description.{Description}
+use Rattle.plan_definitions.specs.Common.{Flat, Description, leaders, group_number, heads}
 use Rattle.plan_elements.specs.declared.groups.Groups.{Groups}
-use Rattle.plan_definitions.specs.Elements.{leaders}
-use Rattle.plan_definitions.specs.ElementGroups.{group_number, heads}
 use Rattle.plan_elements.specs.Ends.{AreJoined}
 
 pub record AreGroups (d : Description) (f : Flat) (g : Groups) : Type 0 where

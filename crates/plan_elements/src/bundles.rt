@@ -1,12 +1,9 @@
 //! The bundles that coherent access lists make of groups.
 
 ghost use Rattle.std.specs.Prelude.{◌≡◌, ◌<◌, ◌^◌, ◌==◌, [], ◌∷◌, ◌++◌, if◌then◌else◌, Option, Some, None, IfOk, OnOk, get_or, length, map};
-ghost use Rattle.std.specs.List.{flat_map, list_all, list_any};
-ghost use Rattle.bus_semantics.specs.Bundles.{least, together};
-ghost use Rattle.bus_semantics.specs.Plan.{positions};
-ghost use Rattle.plan_definitions.specs.Elements.{elem_seen};
-ghost use Rattle.plan_definitions.specs.ElementGroups.{group_number, groups};
-ghost use Rattle.plan_definitions.specs.Listed.{group_at, groups_listed};
+ghost use Rattle.bus_semantics.specs.Common.{flat_map, list_all, list_any, least, together, positions};
+ghost use Rattle.plan_definitions.specs.Common.{elem_seen, group_number, groups, groups_listed};
+ghost use Rattle.plan_definitions.specs.Listed.{group_at};
 ghost use Rattle.plan_elements.specs.Bundled.{leaders_over, lowest};
 
 use crate::groups::grouping_of;

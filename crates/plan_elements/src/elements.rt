@@ -1,8 +1,7 @@
 //! The data elements and variables of a plan.
 
 ghost use Rattle.std.specs.Prelude.{◌≡◌, [], ◌∷◌, ◌++◌, IfOk, None, OnOk, Some, false, map, option_and_then, option_copied, slice_get};
-ghost use Rattle.plan_definitions.specs.Ports.{com_spec_of, site_name};
-ghost use Rattle.plan_definitions.specs.Elements.{declared_at, elem_seen, element_of, elements, group_of, is_provided};
+ghost use Rattle.plan_definitions.specs.Common.{com_spec_of, site_name, declared_at, elem_seen, element_of, elements, group_of, is_provided};
 ghost use Rattle.plan_elements.specs.Grouped.{AreGroups};
 ghost use Rattle.plan_elements.specs.Ends.{joined_at};
 

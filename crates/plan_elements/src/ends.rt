@@ -1,11 +1,8 @@
 //! The ends of joins: their numbers, and which elements they are.
 
 ghost use Rattle.std.specs.Prelude.{◌≡◌, ℕ, ◌<◌, ◌^◌, ◌||◌, IfOk, Some, false, length, nat_eq, replicate};
-ghost use Rattle.std.specs.List.{position_from};
-ghost use Rattle.std.specs.Option.{option_eq, unwrap_or};
-ghost use Rattle.plan_definitions.specs.ElementGroups.{own_number};
-ghost use Rattle.plan_definitions.specs.Keys.{end_key, keys_of, same_key};
-ghost use Rattle.plan_definitions.specs.Things.{elements_of};
+ghost use Rattle.bus_semantics.specs.Common.{position_from, option_eq, unwrap_or};
+ghost use Rattle.plan_definitions.specs.Common.{own_number, end_key, keys_of, same_key, elements_of};
 ghost use Rattle.plan_elements.specs.Ends.{AreJoined, has_at, mark_at, pairs_of, stands_at};
 
 use description_types::{End, Join};

@@ -1,9 +1,8 @@
 //! Groups of elements that joins connect.
 
 ghost use Rattle.std.specs.Prelude.{◌≡◌, ◌+◌, ◌<◌, ◌^◌, [], ◌∷◌, ◌++◌, IfOk, OnOk, length, map, nat_eq, if◌then◌else◌};
-ghost use Rattle.plan_definitions.specs.Elements.{leaders as all_leaders};
+ghost use Rattle.plan_definitions.specs.Common.{leaders as all_leaders, group_number, groups as all_groups, heads};
 ghost use Rattle.plan_elements.specs.Grouped.{AreGroups};
-ghost use Rattle.plan_definitions.specs.ElementGroups.{group_number, groups as all_groups, heads};
 ghost use Rattle.plan_elements.specs.Lists.{ranks};
 ghost use Rattle.plan_elements.specs.Spreads.{number_at};
 

@@ -1,10 +1,7 @@
 //! The least number in the group of each element.
 
 ghost use Rattle.std.specs.Prelude.{◌≡◌, ◌<◌, ◌^◌, IfOk};
-ghost use Rattle.plan_definitions.specs.Elements.{leaders};
-ghost use Rattle.plan_definitions.specs.Keys.{keys_of};
-ghost use Rattle.plan_definitions.specs.Lists.{positions};
-ghost use Rattle.plan_definitions.specs.Things.{elements_of};
+ghost use Rattle.plan_definitions.specs.Common.{leaders, keys_of, positions, elements_of};
 ghost use Rattle.plan_elements.specs.Ends.{pairs_of};
 
 use crate::spread::spread;

@@ -2,9 +2,8 @@
 
 ghost use Rattle.std.specs.Prelude.{◌≡◌, ◌<◌, ◌^◌, [], ◌∷◌, ◌++◌, Some, IfOk, OnOk, length, map, option_copied, slice_get};
 ghost use Rattle.std.specs.Option.{option_map_or};
-ghost use Rattle.plan_definitions.specs.Lists.{from};
-ghost use Rattle.plan_definitions.specs.Listed.{element_at, is_required, list_of, lists as all_lists, lists_at, reads, runnable_at};
-ghost use Rattle.plan_definitions.specs.Parts.{runnables_of};
+ghost use Rattle.plan_definitions.specs.Common.{from, element_at, list_of, lists as all_lists, lists_at, reads, runnable_at, runnables_of};
+ghost use Rattle.plan_definitions.specs.Listed.{is_required};
 
 use bus_semantics::CoherentList;
 use description_types::{ItemPair, PortKind, Runnable};

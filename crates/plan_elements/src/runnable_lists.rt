@@ -1,8 +1,7 @@
 //! The lists of each runnable.
 
 ghost use Rattle.std.specs.Prelude.{◌≡◌, ◌<◌, ◌^◌, IfOk, length, map};
-ghost use Rattle.plan_definitions.specs.ElementGroups.{all_members};
-ghost use Rattle.plan_definitions.specs.Listed.{list_numbers, lists as all_lists};
+ghost use Rattle.plan_definitions.specs.Common.{all_members, list_numbers, lists as all_lists};
 
 use crate::lists::list_plans;
 use crate::members::all_members;

@@ -1,9 +1,7 @@
 //! What is said of elements and variables: their initial words and queues.
 
 ghost use Rattle.std.specs.Prelude.{◌≡◌, None, false, if◌then◌else◌, option_and_then, option_copied, pos, replicate};
-ghost use Rattle.std.specs.Option.{option_map_or, unwrap_or};
-ghost use Rattle.rte_value.specs.Arithmetic.{clamped};
-ghost use Rattle.rte_value.specs.Values.{words_of as value_words};
+ghost use Rattle.bus_semantics.specs.Common.{option_map_or, unwrap_or, clamped, words_of as value_words};
 ghost use Rattle.plan_definitions.specs.Elements.{held, keeps_last, keeps_queue, limits_of, words_of, zeros};
 
 use bus_semantics::ElemKind;

@@ -1,17 +1,8 @@
 -- Few enough to be numbered: the items of a port, and the lists of what stands at ports.
 use Rattle.std.proofs.Common.{◌≡◌, ℕ, ◌^◌, ◌<◌, ◌≤◌, length, slice_get, Bool, true, false, cond, ◌&&◌, is_some, Option, Some, None, option_map, refl, sym, ap, subst, arith}
-use Rattle.description_types.specs.declared.interface.Interface.{Interface}
-use Rattle.description_types.specs.declared.interface.InterfaceKind.{InterfaceKind}
-use Rattle.description_types.specs.declared.interface.InterfaceKind.TheVariants.{SenderReceiver, ClientServer, ModeSwitch}
-use Rattle.description_types.specs.declared.interface.TypeTable.{TypeTable}
-use Rattle.description_types.specs.declared.component.Port.{Port}
-use Rattle.description_types.specs.declared.component.PortKind.{PortKind}
-use Rattle.description_types.specs.declared.description.Description.{Description}
-use Rattle.description_types.specs.declared.flat.Flat.{Flat}
+use Rattle.plan_definitions.specs.Common.{Interface, InterfaceKind, SenderReceiver, ClientServer, ModeSwitch, TypeTable, Port, PortKind, Description, Flat, count_at, kind_at, provides_at}
+use Rattle.plan_definitions.specs.Common.{shape_at, HasFewThings, HasShortInterfaces, item_count}
 use Rattle.plan_definitions.specs.declared.site.SiteKind.{SiteKind}
-use Rattle.plan_definitions.specs.Sites.{count_at, kind_at, provides_at, shape_at}
-use Rattle.plan_definitions.specs.Sizes.{HasFewThings, HasShortInterfaces}
-use Rattle.plan_definitions.specs.WellFormed.{item_count}
 use Rattle.plan_numbers.specs.declared.lists.Lists.{Lists}
 use Rattle.plan_numbers.specs.Listed.{AreLists, AreShort}
 

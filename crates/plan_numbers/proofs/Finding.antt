@@ -3,11 +3,7 @@ use Rattle.std.proofs.Common.{◌≡◌, ℕ, zero, suc, ◌+◌, List, [], ◌�
 use Rattle.std.specs.List.{find, position_from, slice_get}
 use Rattle.std.specs.Map.{lookup}
 use Rattle.std.specs.Option.{option_and_then, option_map}
-use Rattle.description_types.specs.declared.interface.ComSpec.{ComSpec}
-use Rattle.description_types.specs.declared.flat.End.{End}
-use Rattle.description_types.specs.declared.flat.Join.{Join}
-use Rattle.plan_definitions.specs.Joined.{provider_of, same_end}
-use Rattle.description_types.specs.declared.component.Port.{Port}
+use Rattle.plan_definitions.specs.Common.{ComSpec, End, Join, provider_of, same_end, Port}
 use Rattle.plan_numbers.specs.ComSpecs.{items_of_ports, named_items}
 use Rattle.plan_numbers.specs.Ends.{EndKey, key_of, required_entry, same_end_key}
 use Rattle.plan_definitions.proofs.Keys.{nat_eq_sym, option_eq_sym}

@@ -1,24 +1,15 @@
 -- Elements stand where the sums of those before them say.
-use Rattle.std.proofs.Common.{◌≡◌, ℕ, zero, suc, ◌+◌, ◌<◌, ◌≤◌, ◌^◌, List, [], ◌∷◌, ◌++◌, map, length, drop, get_or, Bool, true, false, cond, ◌&&◌, nat_eq, nat_lt, slice_get, Option, Some, None, option_map, option_and_then, refl, sym, ap, subst, ◌∙◌, arith, add-one}
+use Rattle.std.proofs.Common.{◌≡◌, ℕ, zero, suc, ◌+◌, ◌<◌, ◌≤◌, ◌^◌, List, [], ◌∷◌, ◌++◌, map, length, drop, get_or, Bool, true, false, cond, ◌&&◌, nat_eq, nat_lt, slice_get, Option, Some}
+use Rattle.std.proofs.Common.{None, option_map, option_and_then, refl, sym, ap, subst, ◌∙◌, arith, add-one}
 use Rattle.std.proofs.lemmas.Bool.{eq-eqb, ne_eqb, ltb-true, ltb-false}
 use Rattle.std.proofs.lemmas.List.{length-append, length-map, map-append, at_drop_more, at_drop_all, append_assoc}
 use Rattle.std.proofs.lemmas.List.Elements.{filter-append}
 use Rattle.std.specs.Prelude.{filter}
 use Rattle.std.specs.List.{position_from}
 use Rattle.std.specs.Option.{option_eq, option_map_or, option_or, unwrap_or}
-use Rattle.description_types.specs.declared.component.Component.{Component}
-use Rattle.description_types.specs.declared.component.Port.{Port}
-use Rattle.description_types.specs.declared.description.Description.{Description}
-use Rattle.description_types.specs.declared.flat.Flat.{Flat}
-use Rattle.description_types.specs.declared.flat.Instance.{Instance}
-use Rattle.description_types.specs.declared.interface.Interface.{Interface}
-use Rattle.description_types.specs.declared.interface.InterfaceKind.{InterfaceKind}
-use Rattle.description_types.specs.declared.interface.InterfaceKind.TheVariants.{SenderReceiver, ClientServer, ModeSwitch}
-use Rattle.description_types.specs.declared.interface.TypeTable.{TypeTable}
-use Rattle.plan_definitions.specs.Keys.{Key, is_element, key_of, keys_of, same_key}
-use Rattle.plan_definitions.specs.Lists.{from, positions}
-use Rattle.plan_definitions.specs.Sites.{count_at, kind_at, provides_at, root_ports, site, sites_at, sites_of_component, sites_of_instance, sites_of_ports, sites_with, variables_of}
-use Rattle.plan_definitions.specs.Things.{elements_of}
+use Rattle.plan_definitions.specs.Common.{Component, Port, Description, Flat, Instance, Interface, InterfaceKind, SenderReceiver, ClientServer, ModeSwitch, TypeTable, Key, is_element}
+use Rattle.plan_definitions.specs.Common.{key_of, keys_of, same_key, from, positions, count_at, kind_at, provides_at, root_ports, site, sites_at, sites_of_component, sites_of_instance}
+use Rattle.plan_definitions.specs.Common.{sites_of_ports, sites_with, variables_of, elements_of}
 use Rattle.plan_definitions.specs.declared.site.Site.{Site}
 use Rattle.plan_definitions.specs.declared.site.SiteKind.{SiteKind}
 use Rattle.plan_definitions.specs.declared.site.SiteKind.TheVariants.{Element, Variable, Server, Machine, ModePort}

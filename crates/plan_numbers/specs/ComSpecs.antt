@@ -1,8 +1,6 @@
 -- The items of which ports say something, by port and by component.
 use Rattle.std.specs.Prelude.{◌≡◌, ℕ, List, map}
-use Rattle.description_types.specs.declared.component.Port.{Port}
-use Rattle.description_types.specs.declared.description.Description.{Description}
-use Rattle.plan_definitions.specs.Sites.{root_ports}
+use Rattle.plan_definitions.specs.Common.{Port, Description, root_ports}
 use Rattle.plan_numbers.specs.declared.com_specs.PortTables.{PortTables}
 
 abbrev pub named_items : Port → List ℕ

@@ -1,8 +1,7 @@
 -- Ends as keys.
 use Rattle.std.specs.Prelude.{ℕ, Bool, ◌&&◌, nat_eq, Option}
 use Rattle.std.specs.Option.{option_eq}
-use Rattle.description_types.specs.declared.flat.End.{End}
-use Rattle.description_types.specs.declared.flat.Join.{Join}
+use Rattle.plan_definitions.specs.Common.{End, Join}
 
 abbrev pub EndKey : Type 0
 EndKey = Option ℕ × ℕ × ℕ

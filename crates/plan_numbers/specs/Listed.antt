@@ -1,16 +1,10 @@
 -- All that a plan numbers, listed and numbered.
 use Rattle.std.specs.Prelude.{◌≡◌, ◌<◌, ◌^◌, List, filter, length}
-use Rattle.description_types.specs.declared.flat.Flat.{Flat}
-use Rattle.description_types.specs.declared.flat.Join.{Join}
-use Rattle.description_types.specs.declared.description.Description.{Description}
+use Rattle.plan_definitions.specs.Common.{Flat, Join, Description, is_element, is_machine, is_mode_port, is_server, keys_of, areas_of, events_of, runnables_of, sites, has_machine}
 use Rattle.plan_definitions.specs.declared.site.Site.{Site}
-use Rattle.plan_definitions.specs.Keys.{is_element, is_machine, is_mode_port, is_server, keys_of}
-use Rattle.plan_definitions.specs.Parts.{areas_of, events_of, runnables_of}
-use Rattle.plan_definitions.specs.Sites.{sites}
 use Rattle.plan_numbers.specs.declared.lists.Lists.{Lists}
 use Rattle.plan_numbers.specs.declared.lists.PairNumbers.{PairNumbers}
 use Rattle.plan_numbers.specs.declared.lists.SiteNumbers.{SiteNumbers}
-use Rattle.plan_definitions.specs.Things.{has_machine}
 
 -- the sites of each kind among these
 pub record AreAmong (joins : List Join) (all : List Site) (l : Lists) : Type 0 where

@@ -1,16 +1,7 @@
 -- How many elements stand before those of a port and of an instance.
 use Rattle.std.specs.Prelude.{◌≡◌, ℕ, ◌+◌, ◌<◌, ◌^◌, List, [], ◌∷◌, map, length, min, nat_lt, slice_get, Option, Some, None, option_and_then, option_map, if◌then◌else◌}
 use Rattle.std.specs.Option.{option_map_or}
-use Rattle.description_types.specs.declared.component.Component.{Component}
-use Rattle.description_types.specs.declared.component.Port.{Port}
-use Rattle.description_types.specs.declared.description.Description.{Description}
-use Rattle.description_types.specs.declared.flat.Flat.{Flat}
-use Rattle.description_types.specs.declared.flat.Instance.{Instance}
-use Rattle.description_types.specs.declared.interface.InterfaceKind.{InterfaceKind}
-use Rattle.description_types.specs.declared.interface.InterfaceKind.TheVariants.{SenderReceiver, ClientServer, ModeSwitch}
-use Rattle.description_types.specs.declared.interface.TypeTable.{TypeTable}
-use Rattle.plan_definitions.specs.Sites.{root_ports}
-use Rattle.plan_definitions.specs.Things.{elements_of}
+use Rattle.plan_definitions.specs.Common.{Component, Port, Description, Flat, Instance, InterfaceKind, SenderReceiver, ClientServer, ModeSwitch, TypeTable, root_ports, elements_of}
 use Rattle.plan_numbers.specs.declared.starts.Starts.{Starts}
 
 -- how many elements an interface has, a port, the ports of a component and its variables

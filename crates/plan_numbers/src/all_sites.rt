@@ -1,9 +1,8 @@
 //! All sites of a description, in order.
 
 ghost use Rattle.std.specs.Prelude.{◌≡◌, ◌<◌, ◌^◌, [], ◌∷◌, ◌++◌, IfOk, OnOk, Some, length, option_copied, slice_get};
-ghost use Rattle.plan_definitions.specs.Lists.{from};
-ghost use Rattle.plan_definitions.specs.Sizes.{HasFewInside, HasFewParts, HasFewThings, HasShortInterfaces};
-ghost use Rattle.plan_definitions.specs.Sites.{site, provides_at, kind_at, count_at, shape_at, sites_with, sites_at, sites_of_ports, variables_of, sites_of_component, sites_of_instance, root_ports, sites};
+ghost use Rattle.plan_definitions.specs.Common.{from, HasFewInside, HasFewParts, HasFewThings, HasShortInterfaces, site, provides_at, kind_at, count_at, shape_at, sites_with, sites_at};
+ghost use Rattle.plan_definitions.specs.Common.{sites_of_ports, variables_of, sites_of_component, sites_of_instance, root_ports, sites};
 
 use crate::numbers::position;
 use description_types::{

@@ -2,9 +2,8 @@
 
 ghost use Rattle.std.specs.Prelude.{◌≡◌, IfOk, Some, map, nat_eq, option_and_then, option_copied, slice_get};
 ghost use Rattle.std.specs.List.{find};
-ghost use Rattle.plan_definitions.specs.Sites.{root_ports};
+ghost use Rattle.plan_definitions.specs.Common.{root_ports, com_spec_of, ports_of};
 ghost use Rattle.plan_numbers.specs.ComSpecs.{AreTables, items_of_ports, named_items};
-ghost use Rattle.plan_definitions.specs.Ports.{com_spec_of, ports_of};
 
 use crate::owners::ports_of;
 use crate::positions::Positions;

@@ -1,9 +1,7 @@
 //! The sites of each kind.
 
 ghost use Rattle.std.specs.Prelude.{◌≡◌, ◌<◌, ◌^◌, ◌&&◌, IfOk, filter, length, map};
-ghost use Rattle.plan_definitions.specs.Joined.{end_of};
-ghost use Rattle.plan_definitions.specs.Keys.{is_element, is_machine, is_mode_port, is_server, keys_of};
-ghost use Rattle.plan_definitions.specs.Things.{has_machine};
+ghost use Rattle.plan_definitions.specs.Common.{end_of, is_element, is_machine, is_mode_port, is_server, keys_of, has_machine};
 
 use crate::joined::Joined;
 use crate::numbers::{Key, Numbers};

@@ -1,9 +1,7 @@
 //! All that a plan numbers, listed and numbered.
 
 ghost use Rattle.std.specs.Prelude.{◌≡◌, IfOk};
-ghost use Rattle.plan_definitions.specs.Keys.{keys_of};
-ghost use Rattle.plan_definitions.specs.Parts.{areas_of, events_of, runnables_of};
-ghost use Rattle.plan_definitions.specs.Sizes.{HasFewThings};
+ghost use Rattle.plan_definitions.specs.Common.{keys_of, areas_of, events_of, runnables_of, HasFewThings};
 ghost use Rattle.plan_numbers.specs.Listed.{AreAmong, AreLists, AreNumbers, AreShort, ArePairs};
 
 use crate::all_sites::sites;

@@ -1,9 +1,7 @@
 //! The ports of instances and of the environment.
 
 ghost use Rattle.std.specs.Prelude.{◌≡◌, Some, option_and_then, option_copied, option_map, slice_get};
-ghost use Rattle.plan_definitions.specs.Parts.{component_of};
-ghost use Rattle.plan_definitions.specs.Sites.{root_ports};
-ghost use Rattle.plan_definitions.specs.Ports.{interface_of, port_of, ports_of};
+ghost use Rattle.plan_definitions.specs.Common.{component_of, root_ports, interface_of, port_of, ports_of};
 
 use description_types::{Component, Description, Flat, InterfaceKind, Port};
 

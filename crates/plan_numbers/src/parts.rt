@@ -1,8 +1,7 @@
 //! What instances have, by number.
 
 ghost use Rattle.std.specs.Prelude.{◌≡◌, [], ◌∷◌, ◌++◌, IfOk, OnOk};
-ghost use Rattle.plan_definitions.specs.Lists.{from};
-ghost use Rattle.plan_definitions.specs.Parts.{areas_of, counted, counted_at, events_of, numbered, runnables_of};
+ghost use Rattle.plan_definitions.specs.Common.{from, areas_of, counted, counted_at, events_of, numbered, runnables_of};
 
 use description_types::{Component, Description, Flat, Instance};
 use plan_definitions::Part;

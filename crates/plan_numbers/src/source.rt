@@ -2,15 +2,11 @@
 
 ghost use Rattle.std.specs.Prelude.{◌≡◌, ◌<◌, ◌^◌, Some, IfOk, length, option_copied};
 ghost use Rattle.std.specs.List.{position_from};
-ghost use Rattle.plan_definitions.specs.Joined.{end_at, provider_of};
-ghost use Rattle.plan_definitions.specs.Keys.{keys_of, number_in, pair_number, same_key};
-ghost use Rattle.plan_definitions.specs.Parts.{areas_of, events_of, runnables_of};
-ghost use Rattle.plan_definitions.specs.Sizes.{HasFewThings};
+ghost use Rattle.plan_definitions.specs.Common.{end_at, provider_of, keys_of, number_in, pair_number, same_key, areas_of, events_of, runnables_of, HasFewThings, com_spec_of};
+ghost use Rattle.plan_definitions.specs.Common.{queue_length_of, elements_of, machine_for, machine_number, mode_port_number, server_number};
 ghost use Rattle.plan_numbers.specs.ComSpecs.{AreTables};
 ghost use Rattle.plan_numbers.specs.Listed.{AreLists, AreNumbers, ArePairs};
 ghost use Rattle.plan_numbers.specs.Starts.{AreStarts};
-ghost use Rattle.plan_definitions.specs.Ports.{com_spec_of, queue_length_of};
-ghost use Rattle.plan_definitions.specs.Things.{elements_of, machine_for, machine_number, mode_port_number, server_number};
 
 use crate::com_specs::{PortTables, com_spec_of, port_tables};
 use crate::joined::Joined;

@@ -2,9 +2,9 @@
 
 ghost use Rattle.std.specs.Prelude.{◌≡◌, ◌+◌, ◌<◌, ◌^◌, IfOk, length, map, slice_get};
 ghost use Rattle.std.specs.List.{position_from};
-ghost use Rattle.plan_definitions.specs.Keys.{keys_of, number_in, same_key};
-ghost use Rattle.plan_definitions.specs.Things.{elements_of};
-ghost use Rattle.plan_numbers.specs.Starts.{AreStarts, behind, between, capped, capped_sums, elements_at, elements_in, elements_of_instance, elements_within, low_within, place_outside, place_within, sums, total};
+ghost use Rattle.plan_definitions.specs.Common.{keys_of, number_in, same_key, elements_of};
+ghost use Rattle.plan_numbers.specs.Starts.{AreStarts, behind, between, capped, capped_sums, elements_at, elements_in, elements_of_instance, elements_within, low_within, place_outside};
+ghost use Rattle.plan_numbers.specs.Starts.{place_within, sums, total};
 
 use crate::numbers::{Key, position};
 use crate::owners::ports_of;

@@ -1,20 +1,10 @@
 -- Few enough to be numbered: the ports of the root, the operations of a port, the runnables of an instance, and the keys of calls.
 use Rattle.std.proofs.Common.{◌≡◌, ℕ, ◌^◌, ◌<◌, ◌≤◌, List, [], length, map, slice_get, Option, Some, None, refl, sym, ap, subst, ◌∙◌, arith}
-use Rattle.std.proofs.lemmas.List.{length-map}
-use Rattle.std.specs.Option.{option_map_or}
-use Rattle.description_types.specs.declared.interface.Interface.{Interface}
-use Rattle.description_types.specs.declared.interface.InterfaceKind.{InterfaceKind}
-use Rattle.description_types.specs.declared.interface.InterfaceKind.TheVariants.{SenderReceiver, ClientServer, ModeSwitch}
-use Rattle.description_types.specs.declared.component.Component.{Component}
-use Rattle.description_types.specs.declared.component.Port.{Port}
-use Rattle.description_types.specs.declared.description.Composition.{Composition}
-use Rattle.description_types.specs.declared.description.Description.{Description}
+use Rattle.bus_semantics.specs.Common.{length-map, option_map_or}
+use Rattle.plan_definitions.specs.Common.{Interface, InterfaceKind, SenderReceiver, ClientServer, ModeSwitch, Component, Port, Composition, Description, operation_count, operations_at}
+use Rattle.plan_definitions.specs.Common.{root_ports, HasFewParts, HasShortInterfaces, item_count}
 use Rattle.plan_definitions.specs.declared.calling.Calling.{Calling}
 use Rattle.plan_definitions.specs.declared.part.Part.TheVariants.{Runnables}
-use Rattle.plan_definitions.specs.Callings.{operation_count, operations_at}
-use Rattle.plan_definitions.specs.Sites.{root_ports}
-use Rattle.plan_definitions.specs.Sizes.{HasFewParts, HasShortInterfaces}
-use Rattle.plan_definitions.specs.WellFormed.{item_count}
 
 operations_most : (kind : InterfaceKind) → operation_count kind ≤ item_count kind
 operations_most (SenderReceiver elements) = omega arith

@@ -1,18 +1,9 @@
 -- The event by which an operation is invoked, as it is looked up.
 use Rattle.std.proofs.Common.{◌≡◌, ℕ, List, map, Bool, true, false, cond, ◌&&◌, nat_eq, Option, Some, None, refl, sym, ap, ◌∙◌}
-use Rattle.std.proofs.lemmas.Option.{slice_get-map}
-use Rattle.std.specs.List.{position_from, slice_get}
-use Rattle.std.specs.Option.{option_and_then, option_eq, option_map, option_map_or, unwrap_or}
-use Rattle.description_types.specs.declared.component.Component.{Component}
-use Rattle.description_types.specs.declared.component.Event.{Event}
-use Rattle.description_types.specs.declared.description.Description.{Description}
-use Rattle.description_types.specs.declared.flat.Flat.{Flat}
-use Rattle.description_types.specs.declared.flat.Instance.{Instance}
-use Rattle.description_types.specs.declared.component.EventKind.{EventKind}
-use Rattle.description_types.specs.declared.component.EventKind.TheVariants.{Timing, Init, DataReceived, OperationInvoked, CallReturns, ModeSwitch, ModeSwitchedAck}
-use Rattle.plan_definitions.specs.Keys.{same_pair}
-use Rattle.plan_definitions.specs.Mapped.{invocation_of, invokes}
-use Rattle.plan_definitions.specs.Invoked.{all_invoked, invoked_by, invoked_in}
+use Rattle.bus_semantics.specs.Common.{slice_get-map, position_from, slice_get, option_and_then, option_eq, option_map, option_map_or, unwrap_or}
+use Rattle.plan_definitions.specs.Common.{Component, Event, Description, Flat, Instance, EventKind, Timing, Init, DataReceived, OperationInvoked, CallReturns, ModeSwitchedAck, same_pair}
+use Rattle.plan_definitions.specs.Common.{invocation_of, invokes, all_invoked, invoked_by, invoked_in}
+use Rattle.description_types.specs.declared.component.EventKind.TheVariants.{ModeSwitch}
 use Rattle.plan_services.proofs.Pointing.{position_map}
 
 -- the flag of a number

@@ -1,11 +1,9 @@
 -- The points of calls, as they are looked up.
 use Rattle.std.proofs.Common.{◌≡◌, ℕ, ◌+◌, List, [], ◌∷◌, map, Bool, true, false, cond, ◌&&◌, nat_eq, Option, Some, None, refl, ap, ◌∙◌}
-use Rattle.std.specs.List.{position_from}
-use Rattle.std.specs.Option.{option_eq, option_map, option_map_or, unwrap_or}
+use Rattle.bus_semantics.specs.Common.{position_from, option_eq, option_map, option_map_or, unwrap_or}
 use Rattle.std.proofs.Math.Bool.{and_assoc}
-use Rattle.plan_definitions.specs.Keys.{same_pair}
+use Rattle.plan_definitions.specs.Common.{same_pair, call_key, first_calling, is_calling, leaves, left_key}
 use Rattle.plan_definitions.specs.declared.calling.Calling.{Calling}
-use Rattle.plan_definitions.specs.Callings.{call_key, first_calling, is_calling, leaves, left_key}
 use Rattle.plan_definitions.proofs.Keys.{nat_eq_sym}
 
 -- the position of a key is that of the first thing that has it

@@ -1,12 +1,9 @@
 -- The operation that a runnable serves, as it is looked up.
 use Rattle.std.proofs.Common.{◌≡◌, ℕ, List, [], ◌∷◌, ◌++◌, Bool, true, false, cond, nat_eq, Option, Some, None, refl, ap, ◌∙◌}
-use Rattle.std.specs.List.{flat_map}
-use Rattle.std.specs.Map.{lookup}
-use Rattle.std.specs.Option.{option_map_or}
-use Rattle.description_types.specs.declared.component.Event.{Event}
-use Rattle.plan_definitions.specs.Invoked.{invoked_by}
+use Rattle.bus_semantics.specs.Common.{flat_map, lookup, option_map_or}
+use Rattle.plan_definitions.specs.Common.{Event, invoked_by, served_by}
 use Rattle.plan_services.specs.Served.{Served, served_entry}
-use Rattle.plan_definitions.specs.Started.{served_by, serves}
+use Rattle.plan_definitions.specs.Started.{serves}
 use Rattle.plan_definitions.proofs.Keys.{nat_eq_sym}
 
 none_more : (b : Bool) (rest : Option Served) → rest ≡ option_map_or (λ x. Some x) (cond b None None) rest

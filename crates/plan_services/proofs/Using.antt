@@ -1,14 +1,12 @@
 -- The users of a machine, as they are found among what is kept.
-use Rattle.std.proofs.Common.{◌≡◌, ℕ, zero, suc, ◌+◌, ◌<◌, ◌≤◌, List, [], ◌∷◌, length, map, filter, take, get_or, Bool, true, false, cond, ◌&&◌, ◌||◌, not, nat_eq, is_some, if◌then◌else◌, refl, sym, ap, ◌∙◌, arith, add-one}
+use Rattle.std.proofs.Common.{◌≡◌, ℕ, zero, suc, ◌+◌, ◌<◌, ◌≤◌, List, [], ◌∷◌, length, map, filter, take, get_or, Bool, true, false, cond, ◌&&◌, ◌||◌, not, nat_eq, is_some, if◌then◌else◌}
+use Rattle.std.proofs.Common.{refl, sym, ap, ◌∙◌, arith, add-one}
 use Rattle.std.specs.List.{list_any}
-use Rattle.description_types.specs.declared.description.Description.{Description}
-use Rattle.description_types.specs.declared.flat.Flat.{Flat}
+use Rattle.plan_definitions.specs.Common.{Description, Flat, mode_ports_of, is_user, machine_required, refuses_asynchronous, supports_asynchronous, waits_of}
 use Rattle.plan_definitions.specs.declared.site.Site.{Site}
 use Rattle.indexmap.specs.IndexSet.{contains}
-use Rattle.plan_definitions.specs.Things.{mode_ports_of}
 use Rattle.plan_definitions.proofs.Keys.{nat_eq_sym}
 use Rattle.plan_services.specs.declared.users.Users.{Users}
-use Rattle.plan_definitions.specs.Modes.{is_user, machine_required, refuses_asynchronous, supports_asynchronous, waits_of}
 use Rattle.plan_services.specs.Users.{AreUsers, is_refusal, is_use}
 
 -- a number is that of one of those that are kept

@@ -1,8 +1,7 @@
 -- The operations that the runnables of a component serve.
 use Rattle.std.specs.Prelude.{ℕ, List, [], ◌∷◌}
 use Rattle.std.specs.Option.{option_map_or}
-use Rattle.description_types.specs.declared.component.Event.{Event}
-use Rattle.plan_definitions.specs.Invoked.{invoked_by}
+use Rattle.plan_definitions.specs.Common.{Event, invoked_by}
 
 -- the port and the operation
 abbrev pub Served : Type 0

@@ -1,15 +1,8 @@
 -- The signatures that the runnables of a component have in all its instances.
 use Rattle.std.specs.Prelude.{◌≡◌, List, map}
-use Rattle.std.specs.Arc.{arc_value}
-use Rattle.std.specs.Global.{Global}
+use Rattle.bus_semantics.specs.Common.{arc_value, Global, AccessSig, Signature}
 use Rattle.std.specs.declared.sync.Arc.{Arc}
-use Rattle.runnable_lang.specs.declared.program.AccessSig.{AccessSig}
-use Rattle.runnable_lang.specs.declared.program.Signature.{Signature}
-use Rattle.description_types.specs.declared.interface.TypeTable.{TypeTable}
-use Rattle.description_types.specs.declared.component.Component.{Component}
-use Rattle.description_types.specs.declared.component.Runnable.{Runnable}
-use Rattle.description_types.specs.declared.description.Description.{Description}
-use Rattle.plan_definitions.specs.Signatures.{signature}
+use Rattle.plan_definitions.specs.Common.{TypeTable, Component, Runnable, Description, signature}
 
 abbrev pub Shared : Type 0
 Shared = Arc Signature Global

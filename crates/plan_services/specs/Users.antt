@@ -2,11 +2,8 @@
 use Rattle.std.specs.Prelude.{◌≡◌, ℕ, map, filter, nat_eq, Bool, not, ◌&&◌, is_some}
 use Rattle.std.specs.List.{list_any}
 use Rattle.indexmap.specs.IndexSet.{contains}
-use Rattle.description_types.specs.declared.description.Description.{Description}
-use Rattle.description_types.specs.declared.flat.Flat.{Flat}
+use Rattle.plan_definitions.specs.Common.{Description, Flat, mode_ports_of, machine_required, supports_asynchronous}
 use Rattle.plan_definitions.specs.declared.site.Site.{Site}
-use Rattle.plan_definitions.specs.Things.{mode_ports_of}
-use Rattle.plan_definitions.specs.Modes.{machine_required, supports_asynchronous}
 use Rattle.plan_services.specs.declared.users.Users.{Users}
 
 -- of an instance

@@ -1,11 +1,9 @@
 //! Who calls which operation.
 
 ghost use Rattle.std.specs.Prelude.{◌≡◌, ◌<◌, ◌^◌, [], ◌∷◌, ◌++◌, IfOk, OnOk, length, map, option_copied, slice_get};
-ghost use Rattle.std.specs.List.{flat_map};
-ghost use Rattle.std.specs.Option.{option_map_or};
-ghost use Rattle.plan_definitions.specs.Lists.{from, positions};
-ghost use Rattle.plan_definitions.specs.Sizes.{HasFewParts, HasFewThings, HasShortInterfaces};
-ghost use Rattle.plan_definitions.specs.Callings.{calling_of, callings, callings_in, callings_of_component, operation_count, operations_at, outer_calling, outer_callings};
+ghost use Rattle.bus_semantics.specs.Common.{flat_map, option_map_or};
+ghost use Rattle.plan_definitions.specs.Common.{from, positions, HasFewParts, HasFewThings, HasShortInterfaces, calling_of, callings, callings_in, callings_of_component, operation_count};
+ghost use Rattle.plan_definitions.specs.Common.{operations_at, outer_calling, outer_callings};
 
 use description_types::{
     Access, Component, Description, Flat, Instance, InterfaceKind, Port, PortKind, Runnable,

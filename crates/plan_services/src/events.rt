@@ -2,9 +2,7 @@
 
 ghost use Rattle.std.specs.Prelude.{◌≡◌, ◌<◌, ◌^◌, [], ◌++◌, IfOk, OnOk, length, map, option_copied, option_map, slice_get};
 ghost use Rattle.std.specs.Option.{option_map_or};
-ghost use Rattle.plan_definitions.specs.Lists.{from};
-ghost use Rattle.plan_definitions.specs.Started.{disabling_of, event_of, events as all_events, events_of_component};
-ghost use Rattle.plan_definitions.specs.Callings.{callings as all_callings};
+ghost use Rattle.plan_definitions.specs.Common.{from, disabling_of, event_of, events as all_events, events_of_component, callings as all_callings};
 
 use crate::kinds::{disabling_of, kind_of};
 use crate::listed_callings::Callings;

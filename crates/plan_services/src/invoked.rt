@@ -1,11 +1,8 @@
 //! By which event of an instance an operation is invoked.
 
 ghost use Rattle.std.specs.Prelude.{◌≡◌, IfOk, Some, map, option_and_then, option_copied, slice_get};
-ghost use Rattle.std.specs.List.{position_from};
-ghost use Rattle.std.specs.Option.{option_eq};
-ghost use Rattle.plan_definitions.specs.Keys.{same_pair};
-ghost use Rattle.plan_definitions.specs.Mapped.{invocation_of};
-ghost use Rattle.plan_definitions.specs.Invoked.{all_invoked, invoked_by, invoked_in};
+ghost use Rattle.bus_semantics.specs.Common.{position_from, option_eq};
+ghost use Rattle.plan_definitions.specs.Common.{same_pair, invocation_of, all_invoked, invoked_by, invoked_in};
 
 use description_types::{Component, Description, Event, EventKind, Flat};
 use plan_numbers::{Positions, Source};

@@ -1,12 +1,7 @@
 //! Points at which operations are called.
 
 ghost use Rattle.std.specs.Prelude.{◌≡◌, IfOk, map, option_map};
-ghost use Rattle.plan_definitions.specs.Joined.{end_at, provider_of};
-ghost use Rattle.plan_definitions.specs.Keys.{end_key, pair_number};
-ghost use Rattle.plan_definitions.specs.Parts.{runnables_of};
-ghost use Rattle.plan_definitions.specs.Things.{server_number};
-ghost use Rattle.plan_definitions.specs.Callings.{owner_of};
-ghost use Rattle.plan_definitions.specs.Services.{point_of, point_words};
+ghost use Rattle.plan_definitions.specs.Common.{end_at, provider_of, end_key, pair_number, runnables_of, server_number, owner_of, point_of, point_words};
 
 use crate::arguments::words_at;
 use bus_semantics::PointPlan;

@@ -1,22 +1,11 @@
 //! The runnables of a plan.
 
 ghost use Rattle.std.specs.Prelude.{◌≡◌, ◌<◌, ◌^◌, ℕ, Some, true, [], ◌∷◌, ◌++◌, IfOk, OnOk, get_or, length, map, nat_eq, option_map, slice_get};
-ghost use Rattle.std.specs.List.{flat_map};
-ghost use Rattle.std.specs.Map.{lookup};
-ghost use Rattle.std.specs.Option.{option_map_or};
-ghost use Rattle.bus_semantics.specs.Codes.{HaveOneCode};
-ghost use Rattle.bus_semantics.specs.Plan.{runnable_of as seen};
-ghost use Rattle.description_types.specs.declared.component.Runnable.{Runnable};
-ghost use Rattle.plan_definitions.specs.Keys.{pair_number};
-ghost use Rattle.plan_definitions.specs.Listed.{list_numbers};
-ghost use Rattle.plan_definitions.specs.Lists.{from};
-ghost use Rattle.plan_definitions.specs.Parts.{runnables_of};
-ghost use Rattle.plan_definitions.specs.Coding.{coded_in, coded_at, IsCoded, AreCoded};
+ghost use Rattle.bus_semantics.specs.Common.{flat_map, lookup, option_map_or, HaveOneCode, runnable_of as seen};
+ghost use Rattle.plan_definitions.specs.Common.{Runnable, pair_number, list_numbers, from, runnables_of, coded_in, coded_at, IsCoded, AreCoded, runnable_of, runnables as all_runnables};
+ghost use Rattle.plan_definitions.specs.Common.{runnables_of_component, served_number, callings as all_callings, types_fit};
 ghost use Rattle.plan_services.specs.Served.{served_entry};
 ghost use Rattle.plan_services.specs.Shared.{AreOfAll, AreSignatures, accesses_of, signature_in};
-ghost use Rattle.plan_definitions.specs.Started.{runnable_of, runnables as all_runnables, runnables_of_component, served_number};
-ghost use Rattle.plan_definitions.specs.Callings.{callings as all_callings};
-ghost use Rattle.plan_definitions.specs.WellFormed.{types_fit};
 
 use crate::events::component_at;
 use crate::invoked::Operation;

@@ -2,10 +2,8 @@
 
 ghost use Rattle.std.specs.Prelude.{◌≡◌, IfOk, false, map, slice_get};
 ghost use Rattle.std.specs.Option.{unwrap_or};
-ghost use Rattle.plan_definitions.specs.Parts.{events_of};
-ghost use Rattle.plan_definitions.specs.Mapped.{is_mapped};
-ghost use Rattle.plan_definitions.specs.Invoked.{all_invoked};
-ghost use Rattle.plan_definitions.specs.Services.{queue_of, server_at, server_of, servers, started_by};
+ghost use Rattle.plan_definitions.specs.Common.{events_of, is_mapped, all_invoked, server_at, server_of, servers, started_by};
+ghost use Rattle.plan_definitions.specs.Services.{queue_of};
 
 use crate::arguments::{arguments_at, errors_at};
 use crate::invoked::{Invocations, all_invoked, invocation_of};

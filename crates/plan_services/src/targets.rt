@@ -1,8 +1,7 @@
 //! What the accesses of runnables name.
 
 ghost use Rattle.std.specs.Prelude.{◌≡◌, IfOk, map};
-ghost use Rattle.plan_definitions.specs.Started.{target_of};
-ghost use Rattle.plan_definitions.specs.Callings.{callings as all_callings};
+ghost use Rattle.plan_definitions.specs.Common.{target_of, callings as all_callings};
 
 use crate::listed_callings::Callings;
 use description_types::Access;

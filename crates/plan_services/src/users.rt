@@ -3,8 +3,7 @@
 ghost use Rattle.std.specs.Prelude.{◌≡◌, ℕ, IfOk, filter, map, nat_eq};
 ghost use Rattle.std.specs.List.{list_any};
 ghost use Rattle.indexmap.specs.IndexSet.{contains};
-ghost use Rattle.plan_definitions.specs.Things.{mode_ports_of};
-ghost use Rattle.plan_definitions.specs.Modes.{machine_required, supports_asynchronous, waits_of};
+ghost use Rattle.plan_definitions.specs.Common.{mode_ports_of, machine_required, supports_asynchronous, waits_of};
 ghost use Rattle.plan_services.specs.Users.{AreUsers, is_refusal, is_use};
 
 use indexmap::IndexSet;

@@ -2,13 +2,10 @@
 use Rattle.std.proofs.Common.{◌≡◌, ℕ, ◌+◌, List, [], ◌∷◌, ◌++◌, map, filter, Bool, true, false, cond, refl, sym, ap, ◌∙◌, append_assoc}
 use Rattle.std.specs.List.{concat, flat_map}
 use Rattle.std.proofs.lemmas.List.Folds.{concat-append}
-use Rattle.description_types.specs.declared.description.Description.{Description}
-use Rattle.description_types.specs.declared.description.Task.{Task}
-use Rattle.description_types.specs.declared.flat.Flat.{Flat}
+use Rattle.plan_definitions.specs.Common.{Description, Task, Flat, from}
 use Rattle.bus_semantics.specs.declared.plan.BusPlan.{BusPlan}
 use Rattle.bus_semantics.specs.declared.plan.EventPlan.{EventPlan}
 use Rattle.bus_semantics.specs.Spelling.{Letters}
-use Rattle.plan_definitions.specs.Lists.{from}
 use Rattle.plan_text.specs.Lines.{direct_events, direct_line, event_line, instance_line, invokes_directly, join_line, machine_line, mapped_in, plan_text, task_line, task_lines}
 use Rattle.plan_text.specs.Texts.{direct_text, task_at, tasks_text}
 

@@ -1,9 +1,7 @@
 -- How the lines of the joins of a provided port begin.
 use Rattle.std.specs.Prelude.{◌≡◌, ℕ, ◌++◌, Option, codes, option_copied}
-use Rattle.description_types.specs.declared.description.Description.{Description}
-use Rattle.description_types.specs.declared.flat.Flat.{Flat}
+use Rattle.plan_definitions.specs.Common.{Description, Flat, interface_of, port_name}
 use Rattle.bus_semantics.specs.Spelling.{Letters}
-use Rattle.plan_definitions.specs.Ports.{interface_of, port_name}
 use Rattle.plan_text.specs.declared.joins.Beginning.{Beginning}
 use Rattle.plan_text.specs.Lines.{owned_text}
 

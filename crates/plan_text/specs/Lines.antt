@@ -2,24 +2,13 @@
 -- events, and each event of a direct server.
 use Rattle.std.specs.Prelude.{ℕ, List, [], ◌∷◌, ◌++◌, map, filter, Bool, false, is_none, nat_eq, codes, decimal, slice_get, Option, Some, None}
 use Rattle.std.specs.List.{concat}
-use Rattle.std.specs.Option.{option_map_or}
-use Rattle.description_types.specs.declared.description.Description.{Description}
-use Rattle.description_types.specs.declared.description.MappedEvent.{MappedEvent}
-use Rattle.description_types.specs.declared.description.Task.{Task}
-use Rattle.description_types.specs.declared.flat.End.{End}
-use Rattle.description_types.specs.declared.flat.Flat.{Flat}
-use Rattle.description_types.specs.declared.flat.Instance.{Instance}
-use Rattle.description_types.specs.declared.flat.Join.{Join}
+use Rattle.bus_semantics.specs.Common.{option_map_or, instance_of, plan_of, queue_of, Letters, spaced}
+use Rattle.plan_definitions.specs.Common.{Description, MappedEvent, Task, End, Flat, Instance, Join, from, item_text, by_position}
 use Rattle.bus_semantics.specs.declared.plan.BusPlan.{BusPlan}
 use Rattle.bus_semantics.specs.declared.plan.EventKind.{EventKind}
 use Rattle.bus_semantics.specs.declared.plan.EventKind.TheVariants.{Invoked}
 use Rattle.bus_semantics.specs.declared.plan.EventPlan.{EventPlan}
 use Rattle.bus_semantics.specs.declared.plan.MachinePlan.{MachinePlan}
-use Rattle.bus_semantics.specs.Plan.{instance_of, plan_of, queue_of}
-use Rattle.bus_semantics.specs.Spelling.{Letters, spaced}
-use Rattle.plan_definitions.specs.Lists.{from}
-use Rattle.plan_definitions.specs.Ports.{item_text}
-use Rattle.plan_definitions.specs.Tasks.{by_position}
 
 -- ---- names
 

@@ -1,14 +1,9 @@
 -- The texts of parts of a plan: lines, one after the other.
 use Rattle.std.specs.Prelude.{ℕ, List, [], ◌++◌, if◌then◌else◌}
-use Rattle.std.specs.List.{flat_map}
-use Rattle.description_types.specs.declared.description.Description.{Description}
-use Rattle.description_types.specs.declared.description.MappedEvent.{MappedEvent}
-use Rattle.description_types.specs.declared.description.Task.{Task}
-use Rattle.description_types.specs.declared.flat.Flat.{Flat}
+use Rattle.bus_semantics.specs.Common.{flat_map, Letters}
+use Rattle.plan_definitions.specs.Common.{Description, MappedEvent, Task, Flat, from}
 use Rattle.bus_semantics.specs.declared.plan.BusPlan.{BusPlan}
 use Rattle.bus_semantics.specs.declared.plan.EventPlan.{EventPlan}
-use Rattle.bus_semantics.specs.Spelling.{Letters}
-use Rattle.plan_definitions.specs.Lists.{from}
 use Rattle.plan_text.specs.Lines.{direct_line, event_line, invokes_directly, mapped_in, task_line}
 
 -- a task, and then these mapped events

@@ -1,8 +1,7 @@
 //! The lines of joins.
 
 ghost use Rattle.std.specs.Prelude.{◌≡◌, ◌++◌, [], IfOk, IsTrue, OnOk, codes, option_copied, option_map, slice_get};
-ghost use Rattle.std.specs.List.{flat_map};
-ghost use Rattle.std.specs.Option.{option_map_or};
+ghost use Rattle.bus_semantics.specs.Common.{flat_map, option_map_or};
 ghost use Rattle.plan_definitions.specs.Ports.{item_name, item_text};
 ghost use Rattle.plan_text.specs.Lines.{end_text, join_line};
 ghost use Rattle.plan_text.specs.Beginnings.{Begins, beginning};

@@ -1,30 +1,13 @@
 -- What a kind answers on its object is what `act` answers on it.
 use Rattle.std.proofs.Common.{◌≡◌, ◌∷◌, ℕ, Bool, true, refl, sym, ◌∙◌, ap, Option, Some, is_some}
 use Rattle.std.specs.Prelude.{option_map}
-use Rattle.std.proofs.lemmas.Bool.{false≢true}
-use Rattle.bus_semantics.specs.declared.script.Mapping.{Mapping}
-use Rattle.bus_semantics.specs.declared.entries.Actor.{Actor}
-use Rattle.bus_semantics.specs.declared.entries.Entry.{Entry}
-use Rattle.bus_semantics.specs.Plan.{Plan}
-use Rattle.bus_semantics.specs.Wanted.{Wanted}
-use Rattle.bus_semantics.specs.History.{Noted, Past}
-use Rattle.bus_semantics.specs.Objects.{object_of, touched}
-use Rattle.bus_semantics.specs.Fitting.{wish_fits}
-use Rattle.bus_semantics.specs.Asked.{noted_for, asks_its_own, MayCome, NoneMayCome}
-use Rattle.bus_semantics.specs.Pasts.{Follows}
-use Rattle.bus_semantics.specs.Sound.{IsSound}
+use Rattle.bus_semantics.specs.Common.{false≢true, Plan, Wanted, Noted, Past, object_of, touched, wish_fits, noted_for, asks_its_own, MayCome, NoneMayCome, Follows, IsSound}
+use Rattle.bus_laws.specs.Common.{Mapping, Actor, Entry}
 use Rattle.object_kinds.specs.declared.acted.Acted.{Acted}
 use Rattle.object_kinds.specs.declared.acted.Acted.TheVariants.{Done, NotYet}
 use Rattle.object_kinds.specs.declared.acted.Shown.{Shown}
 use Rattle.object_kinds.specs.Kinds.{IsAnswerOf}
-use Rattle.port_objects.specs.declared.object.Object.{Object}
-use Rattle.port_objects.specs.Kept.{Kept}
-use Rattle.port_objects.specs.Leading.{lead}
-use Rattle.port_objects.specs.Objects.{kept_of}
-use Rattle.port_objects.specs.Standing.{Stands}
-use Rattle.port_objects.specs.Waking.{may_start_in, Tells, TellsPoint}
-use Rattle.port_objects.specs.Answers.{why_held, IsMade, IsHeld, IsAnswer}
-use Rattle.port_objects.specs.Coming.{MayAsk, IsTheOne}
+use Rattle.port_objects.specs.Common.{Object, Kept, lead, kept_of, Stands, may_start_in, Tells, TellsPoint, why_held, IsMade, IsHeld, IsAnswer, MayAsk, IsTheOne}
 use Rattle.port_objects.proofs.Gate.{opens, stays_shut}
 use Rattle.port_objects.proofs.Rows.{Row}
 use Rattle.port_objects.proofs.Asking.{made_touches, made_proper}

@@ -1,21 +1,10 @@
 -- An entry that is the actor's and of the wish touches what the wish touches, and is proper where the wish fits and the answer does.
 use Rattle.std.proofs.Common.{◌≡◌, ℕ, true, false, ◌&&◌, if◌then◌else◌, refl, sym, ◌∙◌, ap, subst, Some, None}
 use Rattle.std.specs.Prelude.{is_none, unwrap_or}
-use Rattle.std.proofs.lemmas.Bool.{and_parts, eq-eqb, false≢true}
-use Rattle.rte_value.specs.Values.{same_number}
-use Rattle.bus_semantics.specs.declared.entries.Actor.{Actor}
-use Rattle.bus_semantics.specs.declared.entries.Actor.TheVariants.{Env, Machine, Act}
-use Rattle.bus_semantics.specs.declared.entries.Deed.{Deed}
+use Rattle.bus_semantics.specs.Common.{and_parts, eq-eqb, false≢true, same_number, Plan, instance_of, Wanted, to_admit, to_end, wanted_by, needs_event, object_of, touched_by, touches}
+use Rattle.bus_semantics.specs.Common.{touched, key_fits, event_fits, wish_fits, activation_fits, answer_fits, starts_its_own, is_proper, event_of, noted_for, asks_its_own}
+use Rattle.bus_laws.specs.Common.{Actor, Env, Machine, Act, Deed, Entry}
 use Rattle.bus_semantics.specs.declared.entries.Deed.TheVariants as deed
-use Rattle.bus_semantics.specs.declared.entries.Entry.{Entry}
-use Rattle.bus_semantics.specs.Plan.{Plan, instance_of}
-use Rattle.bus_semantics.specs.Wanted.{Wanted, to_admit, to_end, wanted_by}
-use Rattle.bus_semantics.specs.History.{needs_event}
-use Rattle.bus_semantics.specs.Objects.{object_of, touched_by, touches, touched}
-use Rattle.bus_semantics.specs.Owners.{key_fits, event_fits}
-use Rattle.bus_semantics.specs.Fitting.{wish_fits, activation_fits, answer_fits}
-use Rattle.bus_semantics.specs.Locality.{starts_its_own, is_proper}
-use Rattle.bus_semantics.specs.Asked.{event_of, noted_for, asks_its_own}
 
 -- an entry that needs an event has one
 has_event : (w : Wanted) (d : Deed) → wanted_by (unwrap_or (event_of w) 0) d ≡ w → (needs_event d && is_none (event_of w)) ≡ false

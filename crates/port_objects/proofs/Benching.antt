@@ -1,22 +1,12 @@
 -- One entry on an object among all.
 use Rattle.std.proofs.Common.{◌≡◌, ℕ, zero, suc, ◌+◌, ◌<◌, ◌==◌, refl, sym, ◌∙◌, ap, subst, arith, List, [], ◌∷◌, length, get_or, Some}
 use Rattle.std.specs.Prelude.{set, unwrap_or}
-use Rattle.std.specs.List.{slice_get}
-use Rattle.std.proofs.lemmas.Option.{slice_get-get_or}
-use Rattle.std.proofs.lemmas.Bool.{and_parts, eqb-true}
-use Rattle.std.proofs.lemmas.List.{length-set}
+use Rattle.bus_semantics.specs.Common.{slice_get, slice_get-get_or, and_parts, eqb-true, length-set, Plan, Wanted, clock, object_of, touched, IsObject}
 use Rattle.bus_semantics.specs.declared.entries.Actor.{Actor}
-use Rattle.bus_semantics.specs.Plan.{Plan}
-use Rattle.bus_semantics.specs.Wanted.{Wanted}
-use Rattle.bus_semantics.specs.Objects.{clock, object_of, touched, IsObject}
-use Rattle.port_objects.specs.declared.object.Object.{Object}
+use Rattle.port_objects.specs.Common.{Object, IsOfPlan, ArePlans, HasObjects, IsAnswer, ActedOn}
 use Rattle.object_kinds.specs.declared.acted.Acted.{Acted}
 use Rattle.object_kinds.specs.declared.acted.Acted.TheVariants as acted
 use Rattle.object_kinds.proofs.Lists.{set_same}
-use Rattle.port_objects.specs.Objects.{IsOfPlan, ArePlans}
-use Rattle.port_objects.specs.Plans.{HasObjects}
-use Rattle.port_objects.specs.Answers.{IsAnswer}
-use Rattle.port_objects.specs.Benches.{ActedOn}
 
 pub touched_is : (p : Plan) (a : Actor) (w : Wanted) (n : ℕ) → object_of p a w ≡ Some n → touched p a w ≡ n
 touched_is p a w n e = ap (λ o. unwrap_or o 0) e

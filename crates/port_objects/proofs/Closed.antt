@@ -1,22 +1,11 @@
 -- When nobody may enter an area: on an object of another kind always, and on an area while somebody is in it.
 use Rattle.std.proofs.Common.{◌≡◌, ℕ, false, true, refl, sym, ◌∙◌, ap, subst, Option, Some, None}
 use Rattle.std.specs.Prelude.{is_none, option_map, unwrap_or}
-use Rattle.std.specs.Cmp.{unsigned_Decides}
-use Rattle.std.proofs.lemmas.Bool.{and_from}
-use Rattle.rte_value.specs.declared.kinds.ActKey.{ActKey}
-use Rattle.rte_value.specs.Values.{same_number}
-use Rattle.bus_semantics.specs.declared.entries.Actor.{Actor}
-use Rattle.bus_semantics.specs.declared.entries.Actor.TheVariants.{Env, Machine, Act}
-use Rattle.bus_semantics.specs.declared.entries.Deed.{Deed}
+use Rattle.bus_semantics.specs.Common.{unsigned_Decides, and_from, ActKey, same_number, Plan, to_enter, wanted_by, Noted, object_of, touches, fits, wish_fits, answer_fits, is_proper}
+use Rattle.bus_semantics.specs.Common.{starts_its_own}
+use Rattle.bus_laws.specs.Common.{Actor, Env, Machine, Act, Deed}
 use Rattle.bus_semantics.specs.declared.entries.Deed.TheVariants as deed
-use Rattle.bus_semantics.specs.Plan.{Plan}
-use Rattle.bus_semantics.specs.Wanted.{to_enter, wanted_by}
-use Rattle.bus_semantics.specs.History.{Noted}
-use Rattle.bus_semantics.specs.Objects.{object_of, touches}
-use Rattle.bus_semantics.specs.Fitting.{fits, wish_fits, answer_fits}
-use Rattle.bus_semantics.specs.Locality.{is_proper, starts_its_own}
-use Rattle.object_kinds.specs.Layout.{group_at}
-use Rattle.object_kinds.specs.Flags.{given}
+use Rattle.object_kinds.specs.Common.{group_at, given}
 use Rattle.object_kinds.proofs.Proper.{noting}
 use Rattle.data_objects.specs.Kept as group
 use Rattle.data_objects.specs.Leading as group_leading
@@ -32,9 +21,7 @@ use Rattle.area_objects.specs.Leading as area_leading
 use Rattle.machine_objects.specs.Leading as machine_leading
 use Rattle.clock_objects.specs.Kept as clock
 use Rattle.clock_objects.specs.Leading as clock_leading
-use Rattle.port_objects.specs.Kept.{Kept, of_group, of_bundle, of_queues, of_server, of_area, of_machine, of_clock}
-use Rattle.port_objects.specs.Leading.{lead_by_kind, lead}
-use Rattle.port_objects.specs.Waking.{is_leave, IsClosed}
+use Rattle.port_objects.specs.Common.{Kept, of_group, of_bundle, of_queues, of_server, of_area, of_machine, of_clock, lead_by_kind, lead, is_leave, IsClosed}
 use Rattle.port_objects.proofs.Gate.{passed, opens, stays_shut}
 
 -- what wants to enter is an Enter

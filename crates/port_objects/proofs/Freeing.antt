@@ -1,19 +1,10 @@
 -- Of a wish that touches no object one entry alone may come.
 use Rattle.std.proofs.Common.{◌≡◌, ℕ, ℤ, true, ◌==◌, refl, sym, ◌∙◌, ap, subst, List, [], Option, Some, None}
 use Rattle.std.specs.Prelude.{◌+◌, option_map}
-use Rattle.std.proofs.lemmas.Bool.{and_from, and_parts, eq-eqb, eqb-true, false≢true}
-use Rattle.rte_value.specs.declared.value.Value.{Value}
-use Rattle.rte_value.specs.Values.{words_of, same_words}
-use Rattle.rte_value.specs.EqualValues.{Value-by_words, same_words-Decides}
-use Rattle.bus_semantics.specs.declared.entries.Actor.{Actor}
-use Rattle.bus_semantics.specs.declared.entries.Deed.{Deed}
+use Rattle.bus_semantics.specs.Common.{and_from, and_parts, eq-eqb, eqb-true, false≢true, Value, words_of, same_words, Value-by_words, same_words-Decides, Plan, server_of, Wanted, to_ask}
+use Rattle.bus_semantics.specs.Common.{to_take_result, to_end, wanted_by, Past, object_of, first_server, ask_code, result_of, is_outcome, calls_allow, Answers}
+use Rattle.bus_laws.specs.Common.{Actor, Deed}
 use Rattle.bus_semantics.specs.declared.entries.Deed.TheVariants as deed
-use Rattle.bus_semantics.specs.Plan.{Plan, server_of}
-use Rattle.bus_semantics.specs.Wanted.{Wanted, to_ask, to_take_result, to_end, wanted_by}
-use Rattle.bus_semantics.specs.History.{Past}
-use Rattle.bus_semantics.specs.Objects.{object_of, first_server}
-use Rattle.bus_semantics.specs.Calls.{ask_code, result_of}
-use Rattle.bus_semantics.specs.Legal.{is_outcome, calls_allow, Answers}
 use Rattle.port_objects.specs.Freed.{is_free, IsUnconnected}
 
 -- ---- the deeds of such wishes

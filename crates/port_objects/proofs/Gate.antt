@@ -1,12 +1,7 @@
 -- The gate of the lead: what leads on touches the object and is proper.
 use Rattle.std.proofs.Common.{◌≡◌, ℕ, Bool, true, false, ◌&&◌, if◌then◌else◌, refl, Some, None}
-use Rattle.std.proofs.lemmas.Bool.{and_parts}
-use Rattle.bus_semantics.specs.Plan.{Plan}
-use Rattle.bus_semantics.specs.History.{Noted}
-use Rattle.bus_semantics.specs.Objects.{touches}
-use Rattle.bus_semantics.specs.Locality.{is_proper}
-use Rattle.port_objects.specs.Kept.{Kept}
-use Rattle.port_objects.specs.Leading.{lead_by_kind, lead}
+use Rattle.bus_semantics.specs.Common.{and_parts, Plan, Noted, touches, is_proper}
+use Rattle.port_objects.specs.Common.{Kept, lead_by_kind, lead}
 
 pub record Passed (p : Plan) (object : ℕ) (before after : Kept) (n : Noted) : Type 0 where
   pub touching : touches p object n ≡ true

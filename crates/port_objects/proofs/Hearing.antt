@@ -1,24 +1,13 @@
 -- When an Answer comes: on a server to whose point something was returned; never on an object of another kind.
 use Rattle.std.proofs.Common.{◌≡◌, ℕ, Bool, false, true, refl, sym, ◌∙◌, ap, Some, None}
 use Rattle.std.specs.Prelude.{option_map, unwrap_or}
-use Rattle.std.specs.Cmp.{unsigned_Decides}
-use Rattle.std.proofs.lemmas.Bool.{and_from}
-use Rattle.rte_value.specs.declared.kinds.ActKey.{ActKey}
-use Rattle.rte_value.specs.declared.value.Value.{Value}
-use Rattle.rte_value.specs.Values.{same_number}
-use Rattle.bus_semantics.specs.declared.entries.Actor.TheVariants.{Act}
-use Rattle.bus_semantics.specs.declared.entries.Deed.{Deed}
+use Rattle.bus_semantics.specs.Common.{unsigned_Decides, and_from, ActKey, Value, same_number, Plan, to_hear, wanted_by, Noted, object_of, touches, fits, wish_fits, answer_fits, is_proper}
+use Rattle.bus_semantics.specs.Common.{starts_its_own}
+use Rattle.bus_laws.specs.Common.{Act, Deed}
 use Rattle.bus_semantics.specs.declared.entries.Deed.TheVariants as deed
-use Rattle.bus_semantics.specs.Plan.{Plan}
-use Rattle.bus_semantics.specs.Wanted.{to_hear, wanted_by}
-use Rattle.bus_semantics.specs.History.{Noted}
-use Rattle.bus_semantics.specs.Objects.{object_of, touches}
-use Rattle.bus_semantics.specs.Fitting.{fits, wish_fits, answer_fits}
-use Rattle.bus_semantics.specs.Locality.{is_proper, starts_its_own}
-use Rattle.object_kinds.specs.Layout.{place}
+use Rattle.object_kinds.specs.Common.{place, group_at}
 use Rattle.object_kinds.proofs.Proper.{noting}
 use Rattle.server_objects.specs.Kept as server
-use Rattle.object_kinds.specs.Layout.{group_at}
 use Rattle.data_objects.specs.Leading as group_leading
 use Rattle.bundle_objects.specs.Leading as bundle_leading
 use Rattle.queue_objects.specs.Leading as queue_leading
@@ -27,9 +16,7 @@ use Rattle.area_objects.specs.Leading as area_leading
 use Rattle.machine_objects.specs.Leading as machine_leading
 use Rattle.clock_objects.specs.Leading as clock_leading
 use Rattle.server_objects.proofs.Hearing.{none_heard_by, may_be_heard}
-use Rattle.port_objects.specs.Kept.{Kept, of_group, of_bundle, of_queues, of_server, of_area, of_machine, of_clock}
-use Rattle.port_objects.specs.Leading.{lead}
-use Rattle.port_objects.specs.Waking.{may_hear_in}
+use Rattle.port_objects.specs.Common.{Kept, of_group, of_bundle, of_queues, of_server, of_area, of_machine, of_clock, lead, may_hear_in}
 use Rattle.port_objects.proofs.Gate.{opens, stays_shut}
 
 -- what wants to hear is an Answer

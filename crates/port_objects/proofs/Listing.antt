@@ -1,16 +1,8 @@
 -- Which bundles coherent lists touch, as the lists are read one by one.
 use Rattle.std.proofs.Common.{◌≡◌, ◌<◌, ◌≤◌, ◌+◌, ℕ, zero, suc, Bool, true, false, ◌||◌, ◌==◌, refl, sym, ◌∙◌, ap, arith, List, [], ◌∷◌, length, set, replicate, take, Option, Some, None}
 use Rattle.std.specs.Prelude.{option_and_then}
-use Rattle.std.specs.List.{list_any, slice_get}
-use Rattle.std.proofs.lemmas.Bool.{eq-eqb, ne_eqb}
-use Rattle.std.specs.Option.{option_map_or}
-use Rattle.std.proofs.lemmas.List.{length-set, take_all}
-use Rattle.std.proofs.lemmas.Option.{same_Some}
-use Rattle.rte_value.specs.Values.{same_number}
+use Rattle.bus_semantics.specs.Common.{list_any, slice_get, eq-eqb, ne_eqb, option_map_or, length-set, take_all, same_Some, same_number, Plan, group_of, home_of, bundle_of, bundles_fit}
 use Rattle.bus_semantics.specs.declared.plan.CoherentList.{CoherentList}
-use Rattle.bus_semantics.specs.Plan.{Plan, group_of}
-use Rattle.bus_semantics.specs.Bundles.{home_of, bundle_of}
-use Rattle.bus_semantics.specs.SoundLists.{bundles_fit}
 use Rattle.object_kinds.proofs.Options.{then_some}
 use Rattle.object_kinds.proofs.Ranges.{homes_within}
 use Rattle.port_objects.specs.Plans.{is_listed}

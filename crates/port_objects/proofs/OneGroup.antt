@@ -1,8 +1,6 @@
 -- A bundle that is a group by itself, as it is made.
 use Rattle.std.proofs.Common.{◌≡◌, ◌<◌, ℕ, Bool, true, false, sym, ◌∙◌, ap, subst, arith, List, length}
-use Rattle.std.proofs.lemmas.Option.{slice_get_within}
-use Rattle.bus_semantics.specs.Plan.{Plan}
-use Rattle.bus_semantics.specs.SoundLists.{bundles_fit}
+use Rattle.bus_semantics.specs.Common.{slice_get_within, Plan, bundles_fit}
 use Rattle.bus_laws.proofs.Bundling.{homes_counted, there_home}
 use Rattle.object_kinds.specs.Layout.{group_at, events_of, waits_for_data, waits_in_bundle}
 use Rattle.object_kinds.proofs.Alone.{alone_events}
@@ -10,9 +8,7 @@ use Rattle.data_objects.specs.Kept as groups
 use Rattle.data_objects.specs.Plans as group_plans
 use Rattle.queue_objects.specs.Kept as queues
 use Rattle.queue_objects.specs.Plans as queue_plans
-use Rattle.port_objects.specs.Kept.{of_group, of_queues}
-use Rattle.port_objects.specs.Opening.{opening_of_kind, opening_where}
-use Rattle.port_objects.specs.Plans.{has_queues, IsOfOneKind, IsOneGroup}
+use Rattle.port_objects.specs.Common.{of_group, of_queues, opening_of_kind, opening_where, has_queues, IsOfOneKind, IsOneGroup}
 
 -- the group that code found is the bundle's, and of the kind that code found
 module _ (p : Plan) (b g : ℕ) (one : IsOneGroup p b) (is : g ≡ group_at p b) where

@@ -1,10 +1,8 @@
 -- The objects of a plan as they are made: one more each time, kind after kind, and the clock at last.
 use Rattle.std.proofs.Common.{◌≡◌, ℕ, zero, suc, ◌+◌, ◌<◌, length-append, refl, sym, ◌∙◌, ap, subst, arith, List, [], ◌∷◌, ◌++◌, length, map, Some}
-use Rattle.std.specs.List.{slice_get}
+use Rattle.bus_semantics.specs.Common.{slice_get, append-nil, length-map, Plan, positions, first_server, first_area, first_machine, clock}
 use Rattle.std.proofs.Math.Numerals.{suc-eq-add-one}
-use Rattle.std.proofs.lemmas.List.{append-nil, append_assoc, length-map, map_push}
-use Rattle.bus_semantics.specs.Plan.{Plan, positions}
-use Rattle.bus_semantics.specs.Objects.{first_server, first_area, first_machine, clock}
+use Rattle.std.proofs.lemmas.List.{append_assoc, map_push}
 use Rattle.object_kinds.proofs.Positions.{length_positions, mapped_more}
 use Rattle.area_objects.specs.Kept as areas
 use Rattle.area_objects.specs.Layout.{IsArea}
@@ -12,12 +10,8 @@ use Rattle.machine_objects.specs.Kept as machines
 use Rattle.machine_objects.specs.Layout.{machine_of}
 use Rattle.machine_objects.specs.Standing as machine_standing
 use Rattle.clock_objects.specs.Kept as clocks
-use Rattle.port_objects.specs.declared.object.Object.{Object}
-use Rattle.port_objects.specs.Kept.{Kept, of_area, of_clock}
-use Rattle.port_objects.specs.Objects.{kept_of, IsOfPlan}
-use Rattle.port_objects.specs.Opening.{before_servers, before_areas, before_machines, before_clock, opening, opening_of_bundle, opening_of_server, opening_of_machine, AreFirst, AreMade}
-use Rattle.port_objects.specs.Plans.{HasObjects}
-use Rattle.port_objects.specs.Standing.{Stands}
+use Rattle.port_objects.specs.Common.{Object, Kept, of_area, of_clock, kept_of, IsOfPlan, before_servers, before_areas, before_machines, before_clock, opening, opening_of_bundle}
+use Rattle.port_objects.specs.Common.{opening_of_server, opening_of_machine, AreFirst, AreMade, HasObjects, Stands}
 
 -- ---- one object more
 

@@ -3,10 +3,7 @@
 use Rattle.std.proofs.Common.{◌≡◌, ◌∷◌, ℕ, Bool, true, false, refl, sym, ◌∙◌, ap, subst, Option, Some, None, is_some}
 use Rattle.std.specs.Prelude.{option_map}
 use Rattle.bus_semantics.specs.declared.entries.Deed.{Deed}
-use Rattle.bus_semantics.specs.Plan.{Plan}
-use Rattle.bus_semantics.specs.Wanted.{Wanted}
-use Rattle.bus_semantics.specs.History.{Noted, Past}
-use Rattle.bus_semantics.specs.Pasts.{Follows}
+use Rattle.bus_semantics.specs.Common.{Plan, Wanted, Noted, Past, Follows}
 use Rattle.object_kinds.specs.declared.acted.Shown.{Shown}
 use Rattle.object_kinds.specs.Kinds.{StandsFor, LeadsFollow, LeadsKeep, MissesNothing, IsPlainStart, StartsByFlag, OthersWakeNothing}
 use Rattle.data_objects.specs.Kept as group
@@ -30,11 +27,7 @@ use Rattle.machine_objects.specs.Standing as machine_standing
 use Rattle.clock_objects.specs.Kept as clock
 use Rattle.clock_objects.specs.Leading as clock_leading
 use Rattle.clock_objects.specs.Standing as clock_standing
-use Rattle.port_objects.specs.Kept.{Kept, of_group, of_bundle, of_queues, of_server, of_area, of_machine, of_clock}
-use Rattle.port_objects.specs.Leading.{lead_by_kind, lead}
-use Rattle.port_objects.specs.Standing.{Keeps, Stands}
-use Rattle.port_objects.specs.Waking.{may_start_in}
-use Rattle.port_objects.specs.Answers.{why_held}
+use Rattle.port_objects.specs.Common.{Kept, of_group, of_bundle, of_queues, of_server, of_area, of_machine, of_clock, lead_by_kind, lead, Keeps, Stands, may_start_in, why_held}
 use Rattle.port_objects.proofs.Gate.{passed, opens, stays_shut}
 
 pub record Row {K : Type 0} (p : Plan) (object : ℕ) (of : K → Kept) (keeps : K → Past → Type 0) (kind_leads : K → Noted → Option K) (flag : K → ℕ → Bool) (why : K → Wanted → Shown) : Type 0 where

@@ -1,34 +1,16 @@
 -- A sound plan has what its objects need, and a wish that fits touches an object that there is.
-use Rattle.std.proofs.Common.{◌≡◌, ℕ, zero, suc, ◌+◌, ◌<◌, ◌≤◌, ◌^◌, Bool, true, false, not, ◌&&◌, ◌||◌, ◌==◌, ◌⊎◌, inl, inr, refl, sym, ◌∙◌, ap, subst, arith, List, [], ◌∷◌, length, map, Option, Some, None}
+use Rattle.std.proofs.Common.{◌≡◌, ℕ, zero, suc, ◌+◌, ◌<◌, ◌≤◌, ◌^◌, Bool, true, false, not, ◌&&◌, ◌||◌, ◌==◌, ◌⊎◌, inl, inr, refl, sym, ◌∙◌, ap, subst, arith, List, [], ◌∷◌, length, map}
+use Rattle.std.proofs.Common.{Option, Some, None}
 use Rattle.std.specs.Prelude.{IfSome, nat_lt, nat_le, option_map, option_and_then, sum}
-use Rattle.std.specs.List.{list_all, list_any, slice_get}
-use Rattle.std.specs.Option.{option_map_or}
-use Rattle.std.proofs.lemmas.Bool.{and_parts, or_left, or_right, eqb-true, false≢true}
-use Rattle.std.proofs.lemmas.Bool.Decides.{nat_tests}
-use Rattle.std.proofs.lemmas.Option.{slice_get_within}
-use Rattle.rte_value.specs.Values.{same_number}
-use Rattle.bus_semantics.specs.declared.plan.AreaPlan.{AreaPlan}
-use Rattle.bus_semantics.specs.declared.plan.MachinePlan.{MachinePlan}
-use Rattle.bus_semantics.specs.declared.plan.EventPlan.{EventPlan}
-use Rattle.bus_semantics.specs.declared.plan.EventKind.{EventKind}
-use Rattle.bus_semantics.specs.declared.plan.EventKind.TheVariants.{Timing, Init, DataReceived, Invoked, Returns, ModeSwitch, Ack}
-use Rattle.bus_semantics.specs.declared.script.Mapping.{Mapping}
-use Rattle.bus_semantics.specs.declared.entries.Actor.{Actor}
-use Rattle.bus_semantics.specs.declared.entries.Actor.TheVariants.{Env, Machine, Act}
-use Rattle.bus_semantics.specs.declared.entries.Deed.{Deed}
+use Rattle.bus_semantics.specs.Common.{list_all, list_any, slice_get, option_map_or, and_parts, or_left, or_right, eqb-true, false≢true, nat_tests, slice_get_within, same_number, Plan, look}
+use Rattle.bus_semantics.specs.Common.{every_from, group_of, kind_of, instance_of, server_of, machine_of_port, home_of, bundle_of, bundle_of_list, bundles_fit, Wanted, to_tick, to_start}
+use Rattle.bus_semantics.specs.Common.{to_admit, to_fetch, to_write, to_read, to_invalidate, to_see_updated, to_send, to_receive, to_ask, to_hear, to_take_result, to_return, to_enter}
+use Rattle.bus_semantics.specs.Common.{to_leave, to_switch, to_see_mode, to_move_on, to_publish, to_fetch_all, to_publish_all, to_end, wanted_by, Noted, first_server, first_area}
+use Rattle.bus_semantics.specs.Common.{first_machine, clock, object_of, object_of_kind, disabler_of, machine_of_event, owing, served_by, touched_by, IsObject, area_fits, switch_fits}
+use Rattle.bus_semantics.specs.Common.{wish_fits, answer_fits, fits, event_sound, kind_sound, is_in_group, places_at, IsSound}
+use Rattle.bus_laws.specs.Common.{AreaPlan, MachinePlan, EventPlan, EventKind, Timing, Init, DataReceived, Invoked, Returns, ModeSwitch, Ack, Mapping, Actor, Env, Machine, Act, Deed}
+use Rattle.bus_laws.specs.Common.{CoherentList}
 use Rattle.bus_semantics.specs.declared.entries.Deed.TheVariants as deed
-use Rattle.bus_semantics.specs.Plan.{Plan, look, every_from, group_of, kind_of, instance_of, server_of, machine_of_port}
-use Rattle.bus_semantics.specs.Bundles.{home_of, bundle_of, bundle_of_list}
-use Rattle.bus_semantics.specs.SoundLists.{bundles_fit}
-use Rattle.bus_semantics.specs.Wanted.{Wanted, to_tick, to_start, to_admit, to_fetch, to_write, to_read, to_invalidate, to_see_updated, to_send, to_receive, to_ask, to_hear, to_take_result, to_return, to_enter, to_leave, to_switch, to_see_mode, to_move_on, to_publish, to_fetch_all, to_publish_all, to_end, wanted_by}
-use Rattle.bus_semantics.specs.History.{Noted}
-use Rattle.bus_semantics.specs.Objects.{first_server, first_area, first_machine, clock, object_of, object_of_kind, disabler_of, machine_of_event, owing, served_by, touched_by, IsObject}
-use Rattle.bus_semantics.specs.Owners.{area_fits, switch_fits}
-use Rattle.bus_semantics.specs.Fitting.{wish_fits, answer_fits, fits}
-use Rattle.bus_semantics.specs.SoundEvents.{event_sound, kind_sound}
-use Rattle.bus_semantics.specs.Unqueued.{is_in_group}
-use Rattle.bus_semantics.specs.Queued.{places_at}
-use Rattle.bus_semantics.specs.Sound.{IsSound}
 use Rattle.queue_objects.specs.Layout.{receivers_of, is_queued_at, IsQueuedGroup}
 use Rattle.data_objects.specs.Layout.{IsUnqueuedGroup}
 use Rattle.server_objects.specs.Layout.{IsServer}
@@ -39,7 +21,6 @@ use Rattle.clock_objects.specs.Layout.{has_period}
 use Rattle.bus_laws.proofs.Bundling.{homes_counted, there_home}
 use Rattle.bus_laws.proofs.OneBundle.{list_home}
 use Rattle.bus_laws.proofs.ObjectLists.{IsNamed, IsUnnamed, named_or_not, unnamed_untouched}
-use Rattle.bus_semantics.specs.declared.plan.CoherentList.{CoherentList}
 use Rattle.object_kinds.specs.Layout.{group_at, members_of}
 use Rattle.object_kinds.proofs.Alone.{untouched_bundle}
 use Rattle.object_kinds.proofs.Lists.{all_at}

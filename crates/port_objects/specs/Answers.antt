@@ -1,15 +1,8 @@
 -- What `act` answers, by the lead: the entry of the wish by which what the object kept leads to what it keeps, or that no entry of the
 -- actor and of the wish leads anywhere.
 use Rattle.std.specs.Prelude.{◌≡◌, ℕ, true, false, Some, None, unwrap_or}
-use Rattle.bus_semantics.specs.declared.entries.Actor.{Actor}
-use Rattle.bus_semantics.specs.declared.entries.Actor.TheVariants.{Act}
-use Rattle.bus_semantics.specs.declared.entries.Entry.{Entry}
-use Rattle.bus_semantics.specs.Plan.{Plan}
-use Rattle.bus_semantics.specs.History.{Noted}
-use Rattle.bus_semantics.specs.Wanted.{Wanted, to_start, wanted_by}
-use Rattle.bus_semantics.specs.Fitting.{answer_fits}
-use Rattle.bus_semantics.specs.Rest.{plain_key}
-use Rattle.bus_semantics.specs.Asked.{event_of, noted_for}
+use Rattle.bus_laws.specs.Common.{Actor, Act, Entry}
+use Rattle.bus_semantics.specs.Common.{Plan, Noted, Wanted, to_start, wanted_by, answer_fits, plain_key, event_of, noted_for}
 use Rattle.object_kinds.specs.declared.acted.Acted.{Acted}
 use Rattle.object_kinds.specs.declared.acted.Acted.TheVariants.{Done, NotYet}
 use Rattle.object_kinds.specs.declared.acted.Shown.{Shown}

@@ -1,16 +1,8 @@
 -- What a bench answers, and what it tells of it: the objects if it has them all to itself, and its own work if it keeps an account.
 use Rattle.std.specs.Prelude.{◌≡◌, ◌≤◌, ℕ, suc, ◌+◌, List, [], ◌∷◌, ◌++◌, set, slice_get, true, Option, Some, None, unwrap_or}
 use Rattle.std.specs.List.{last_or}
-use Rattle.std.specs.Option.{option_map_or}
-use Rattle.bus_semantics.specs.declared.entries.Actor.{Actor}
-use Rattle.bus_semantics.specs.declared.entries.Entry.{Entry}
-use Rattle.bus_semantics.specs.declared.entries.Stamped.{Stamped}
-use Rattle.bus_semantics.specs.declared.plan.BusPlan.{BusPlan}
-use Rattle.bus_semantics.specs.Plan.{Plan}
-use Rattle.bus_semantics.specs.Wanted.{Wanted, wanted_by}
-use Rattle.bus_semantics.specs.Fitting.{wish_fits, answer_fits}
-use Rattle.bus_semantics.specs.Objects.{object_of, IsObject}
-use Rattle.bus_semantics.specs.Asked.{event_of, asks_its_own}
+use Rattle.bus_semantics.specs.Common.{option_map_or, Plan, Wanted, wanted_by, wish_fits, answer_fits, object_of, IsObject, event_of, asks_its_own}
+use Rattle.bus_laws.specs.Common.{Actor, Entry, Stamped, BusPlan}
 use Rattle.port_objects.specs.declared.object.Object.{Object}
 use Rattle.object_kinds.specs.declared.acted.Shown.{Shown}
 use Rattle.object_kinds.specs.declared.acted.Acted.{Acted}

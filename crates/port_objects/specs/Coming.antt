@@ -1,15 +1,7 @@
 -- What comes of a wish after the entries that its object stands for: the one entry that may come.
 use Rattle.std.specs.Prelude.{◌≡◌, ◌∷◌, true}
-use Rattle.bus_semantics.specs.declared.script.Mapping.{Mapping}
-use Rattle.bus_semantics.specs.declared.entries.Actor.{Actor}
-use Rattle.bus_semantics.specs.declared.entries.Entry.{Entry}
-use Rattle.bus_semantics.specs.Plan.{Plan}
-use Rattle.bus_semantics.specs.Wanted.{Wanted}
-use Rattle.bus_semantics.specs.History.{Noted, Past}
-use Rattle.bus_semantics.specs.Objects.{touched}
-use Rattle.bus_semantics.specs.Fitting.{wish_fits}
-use Rattle.bus_semantics.specs.Asked.{noted_for, asks_its_own, MayCome}
-use Rattle.bus_semantics.specs.Sound.{IsSound}
+use Rattle.bus_laws.specs.Common.{Mapping, Actor, Entry}
+use Rattle.bus_semantics.specs.Common.{Plan, Wanted, Noted, Past, touched, wish_fits, noted_for, asks_its_own, MayCome, IsSound}
 use Rattle.port_objects.specs.Kept.{Kept}
 use Rattle.port_objects.specs.Standing.{Stands}
 

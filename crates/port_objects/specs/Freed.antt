@@ -1,10 +1,8 @@
 -- What is answered to a wish that touches no object.
 use Rattle.std.specs.Prelude.{◌≡◌, [], true, false, Bool, Option, Some, None, unwrap_or}
-use Rattle.rte_value.specs.Values.{words_of}
+use Rattle.bus_semantics.specs.Common.{words_of, Wanted, to_ask, to_take_result, to_end, wanted_by, event_of}
 use Rattle.bus_semantics.specs.declared.entries.Deed.{Deed}
 use Rattle.bus_semantics.specs.declared.entries.Deed.TheVariants as deed
-use Rattle.bus_semantics.specs.Wanted.{Wanted, to_ask, to_take_result, to_end, wanted_by}
-use Rattle.bus_semantics.specs.Asked.{event_of}
 
 -- an end, and an ask or the taking of a result at a point that is not joined
 abbrev pub is_free : Wanted → Bool

@@ -2,10 +2,7 @@
 -- plan and of plain data, and knows no history. It leads on by no entry that does not touch the object, does not fit, or starts another
 -- runnable than its actor's.
 use Rattle.std.specs.Prelude.{ℕ, List, [], ◌∷◌, ◌&&◌, if◌then◌else◌, Option, Some, None, option_map, option_and_then}
-use Rattle.bus_semantics.specs.Plan.{Plan}
-use Rattle.bus_semantics.specs.History.{Noted}
-use Rattle.bus_semantics.specs.Objects.{touches}
-use Rattle.bus_semantics.specs.Locality.{is_proper}
+use Rattle.bus_semantics.specs.Common.{Plan, Noted, touches, is_proper}
 use Rattle.data_objects.specs.Leading as groups
 use Rattle.bundle_objects.specs.Leading as bundles
 use Rattle.queue_objects.specs.Leading as queues

@@ -9,3 +9,4 @@ pub mod Benches
 pub mod Plans
 pub mod Opening
 pub mod Freed
+pub mod Common

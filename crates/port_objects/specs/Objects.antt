@@ -1,7 +1,6 @@
 -- The objects of a plan, as the code has them: what each keeps as plain data, and all in it that no call changes.
 use Rattle.std.specs.Prelude.{◌≡◌, ℕ, suc, List, length, slice_get, Some}
-use Rattle.bus_semantics.specs.Plan.{Plan}
-use Rattle.bus_semantics.specs.Objects.{clock}
+use Rattle.bus_semantics.specs.Common.{Plan, clock}
 use Rattle.data_objects.specs.Plans as groups
 use Rattle.bundle_objects.specs.Plans as bundles
 use Rattle.queue_objects.specs.Plans as queues

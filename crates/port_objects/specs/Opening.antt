@@ -1,7 +1,6 @@
 -- What the objects of a plan keep before anything has happened.
 use Rattle.std.specs.Prelude.{◌≡◌, ℕ, ◌+◌, List, [], ◌∷◌, ◌++◌, map, length, slice_get, Bool, true, false, Some}
-use Rattle.bus_semantics.specs.Plan.{Plan, positions}
-use Rattle.bus_semantics.specs.Objects.{first_server}
+use Rattle.bus_semantics.specs.Common.{Plan, positions, first_server}
 use Rattle.object_kinds.specs.Layout.{group_at}
 use Rattle.data_objects.specs.Kept as groups
 use Rattle.bundle_objects.specs.Kept as bundles

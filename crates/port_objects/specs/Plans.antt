@@ -1,14 +1,7 @@
 -- What is asked of the plans whose objects are made. A sound plan has it.
 use Rattle.std.specs.Prelude.{◌≡◌, ◌<◌, ◌+◌, ◌^◌, ℕ, length, map, sum, Bool, true, false, nat_le, Some, option_and_then, slice_get}
-use Rattle.std.specs.List.{list_any}
-use Rattle.rte_value.specs.Values.{same_number}
+use Rattle.bus_semantics.specs.Common.{list_any, same_number, Plan, look, bundle_of, first_server, first_machine, places_at, groups_fit, objects_counted, bundles_fit}
 use Rattle.bus_semantics.specs.declared.plan.CoherentList.{CoherentList}
-use Rattle.bus_semantics.specs.Plan.{Plan, look}
-use Rattle.bus_semantics.specs.Bundles.{bundle_of}
-use Rattle.bus_semantics.specs.Objects.{first_server, first_machine}
-use Rattle.bus_semantics.specs.Queued.{places_at}
-use Rattle.bus_semantics.specs.SoundPlan.{groups_fit, objects_counted}
-use Rattle.bus_semantics.specs.SoundLists.{bundles_fit}
 use Rattle.object_kinds.specs.Layout.{group_at, IsAlone, members_of}
 use Rattle.data_objects.specs.Layout.{IsUnqueuedGroup}
 use Rattle.bundle_objects.specs.Layout.{IsBundle}

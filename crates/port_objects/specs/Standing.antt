@@ -1,8 +1,6 @@
 -- What an object stands for: a past of it, and what it keeps is what the definitions give from that past.
 use Rattle.std.specs.Prelude.{ℕ}
-use Rattle.bus_semantics.specs.Plan.{Plan}
-use Rattle.bus_semantics.specs.History.{Past}
-use Rattle.bus_semantics.specs.Pasts.{IsPastOf}
+use Rattle.bus_semantics.specs.Common.{Plan, Past, IsPastOf}
 use Rattle.data_objects.specs.Standing as groups
 use Rattle.bundle_objects.specs.Standing as bundles
 use Rattle.queue_objects.specs.Standing as queues

@@ -1,12 +1,9 @@
 -- Which starts and Answers an object allows, which entries can make a start come, and what the last entry can have made come; and when an
 -- area is closed.
 use Rattle.std.specs.Prelude.{◌≡◌, ℕ, List, [], Bool, true, false, Option, Some, None, unwrap_or}
-use Rattle.std.specs.List.{Contains}
+use Rattle.bus_semantics.specs.Common.{Contains, Plan, to_enter, wanted_by, Noted}
 use Rattle.bus_semantics.specs.declared.entries.Deed.{Deed}
 use Rattle.bus_semantics.specs.declared.entries.Deed.TheVariants as deed
-use Rattle.bus_semantics.specs.Plan.{Plan}
-use Rattle.bus_semantics.specs.Wanted.{to_enter, wanted_by}
-use Rattle.bus_semantics.specs.History.{Noted}
 use Rattle.data_objects.specs.Kept as groups
 use Rattle.bundle_objects.specs.Kept as bundles
 use Rattle.queue_objects.specs.Kept as queues

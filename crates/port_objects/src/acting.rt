@@ -1,15 +1,8 @@
 //! One entry on an object.
 
 ghost use Rattle.std.specs.Prelude.{◌≡◌, true, Some};
-ghost use Rattle.bus_semantics.specs.Plan.{plan_of};
-ghost use Rattle.bus_semantics.specs.SoundPlan.{groups_fit};
-ghost use Rattle.bus_semantics.specs.Wanted.{wanted_of};
-ghost use Rattle.bus_semantics.specs.Fitting.{wish_fits};
-ghost use Rattle.bus_semantics.specs.Objects.{object_of, touched};
-ghost use Rattle.bus_semantics.specs.declared.script.Mapping.{Mapping};
-ghost use Rattle.bus_semantics.specs.declared.entries.Entry.{Entry};
-ghost use Rattle.bus_semantics.specs.History.{Past};
-ghost use Rattle.bus_semantics.specs.Asked.{asks_its_own, NoneMayCome};
+ghost use Rattle.bus_semantics.specs.Common.{plan_of, groups_fit, wanted_of, wish_fits, object_of, touched, Past, asks_its_own, NoneMayCome};
+ghost use Rattle.bus_laws.specs.Common.{Mapping, Entry};
 ghost use Rattle.object_kinds.specs.declared.acted.Shown.{Shown};
 ghost use Rattle.object_kinds.specs.declared.acted.Acted.TheVariants.{Done, NotYet};
 ghost use Rattle.port_objects.specs.Objects.{IsOfPlan, kept_of};

@@ -1,11 +1,7 @@
 //! One entry on an object among all.
 
 ghost use Rattle.std.specs.Prelude.{◌≡◌, true, Some};
-ghost use Rattle.bus_semantics.specs.Plan.{plan_of};
-ghost use Rattle.bus_semantics.specs.Wanted.{wanted_of};
-ghost use Rattle.bus_semantics.specs.Fitting.{wish_fits};
-ghost use Rattle.bus_semantics.specs.Asked.{asks_its_own};
-ghost use Rattle.bus_semantics.specs.Objects.{object_of, IsObject};
+ghost use Rattle.bus_semantics.specs.Common.{plan_of, wanted_of, wish_fits, asks_its_own, object_of, IsObject};
 ghost use Rattle.port_objects.specs.Objects.{ArePlans};
 ghost use Rattle.port_objects.specs.Plans.{HasObjects};
 ghost use Rattle.port_objects.specs.Benches.{ActedOn};

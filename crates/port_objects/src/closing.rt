@@ -1,13 +1,8 @@
 //! When nobody may enter an area, and what opens it again.
 
 ghost use Rattle.std.specs.Prelude.{◌≡◌, ℕ, true, false, None, Some, unwrap_or};
-ghost use Rattle.rte_value.specs.declared.kinds.ActKey.{ActKey};
+ghost use Rattle.bus_semantics.specs.Common.{ActKey, Plan, to_enter, wanted_by, Noted, object_of, wish_fits};
 ghost use Rattle.bus_semantics.specs.declared.entries.Actor.TheVariants.{Act};
-ghost use Rattle.bus_semantics.specs.Plan.{Plan};
-ghost use Rattle.bus_semantics.specs.Wanted.{to_enter, wanted_by};
-ghost use Rattle.bus_semantics.specs.History.{Noted};
-ghost use Rattle.bus_semantics.specs.Objects.{object_of};
-ghost use Rattle.bus_semantics.specs.Fitting.{wish_fits};
 ghost use Rattle.port_objects.specs.Kept.{Kept};
 ghost use Rattle.port_objects.specs.Leading.{lead};
 ghost use Rattle.port_objects.specs.Waking.{is_leave, IsClosed};

@@ -1,19 +1,8 @@
 //! Laws of objects.
 
 ghost use Rattle.std.specs.Prelude.{◌≡◌, ◌<◌, ◌^◌, ℕ, true, ◌∷◌, None, Some, is_some, length, unwrap_or, IfSome};
-ghost use Rattle.bus_semantics.specs.declared.script.Mapping.{Mapping};
-ghost use Rattle.bus_semantics.specs.declared.entries.Actor.{Actor};
-ghost use Rattle.bus_semantics.specs.declared.entries.Deed.{Deed};
-ghost use Rattle.bus_semantics.specs.declared.entries.Entry.{Entry};
-ghost use Rattle.bus_semantics.specs.Plan.{Plan};
-ghost use Rattle.bus_semantics.specs.Wanted.{Wanted, wanted_by};
-ghost use Rattle.bus_semantics.specs.History.{Noted, Past};
-ghost use Rattle.bus_semantics.specs.Objects.{object_of, touched_by, touched, IsObject};
-ghost use Rattle.bus_semantics.specs.Fitting.{wish_fits, fits};
-ghost use Rattle.bus_semantics.specs.Legal.{Answers};
-ghost use Rattle.bus_semantics.specs.Sound.{IsSound};
-ghost use Rattle.bus_semantics.specs.Asked.{NoneMayCome};
-ghost use Rattle.bus_semantics.specs.Pasts.{Follows};
+ghost use Rattle.bus_laws.specs.Common.{Mapping, Actor, Deed, Entry};
+ghost use Rattle.bus_semantics.specs.Common.{Plan, Wanted, wanted_by, Noted, Past, object_of, touched_by, touched, IsObject, wish_fits, fits, Answers, IsSound, NoneMayCome, Follows};
 ghost use Rattle.object_kinds.specs.declared.acted.Shown.{Shown};
 ghost use Rattle.port_objects.specs.declared.object.Object.{Object};
 ghost use Rattle.port_objects.specs.Kept.{Kept};

@@ -1,10 +1,7 @@
 //! The objects of a plan.
 
 ghost use Rattle.std.specs.Prelude.{◌≡◌, ◌<◌, ◌^◌, ℕ, Bool, length, map, set, option_and_then, slice_get, true, false, [], Some, IfOk, OnOk};
-ghost use Rattle.std.specs.Option.{option_map_or};
-ghost use Rattle.bus_semantics.specs.Plan.{plan_of};
-ghost use Rattle.bus_semantics.specs.Bundles.{bundle_of};
-ghost use Rattle.bus_semantics.specs.SoundLists.{bundles_fit};
+ghost use Rattle.bus_semantics.specs.Common.{option_map_or, plan_of, bundle_of, bundles_fit};
 ghost use Rattle.object_kinds.specs.Layout.{events_of, group_at, waits_in_bundle};
 ghost use Rattle.queue_objects.specs.Layout.{is_queued_at};
 ghost use Rattle.port_objects.specs.Objects.{kept_of, IsOfPlan, ArePlans};

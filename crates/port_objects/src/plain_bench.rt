@@ -1,10 +1,7 @@
 //! A bench of one thread.
 
 ghost use Rattle.std.specs.Prelude.{◌≡◌, ◌<◌, ◌-◌, ◌++◌, suc, [], ◌∷◌, length};
-ghost use Rattle.std.specs.Vec.{vec_capacity};
-ghost use Rattle.bus_semantics.specs.Plan.{plan_of};
-ghost use Rattle.bus_semantics.specs.Wanted.{wanted_of};
-ghost use Rattle.bus_semantics.specs.Asked.{event_of};
+ghost use Rattle.bus_semantics.specs.Common.{vec_capacity, plan_of, wanted_of, event_of};
 ghost use Rattle.port_objects.specs.Objects.{ArePlans};
 ghost use Rattle.port_objects.specs.Plans.{HasObjects};
 

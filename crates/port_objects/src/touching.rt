@@ -2,9 +2,7 @@
 
 ghost use Rattle.std.specs.Prelude.{◌≡◌, ◌+◌, ℕ, IfSome, Some, option_and_then};
 ghost use Rattle.bus_semantics.specs.declared.entries.Actor.{Actor};
-ghost use Rattle.bus_semantics.specs.Plan.{Plan, plan_of};
-ghost use Rattle.bus_semantics.specs.Wanted.{wanted_of};
-ghost use Rattle.bus_semantics.specs.Objects.{first_machine, object_of, touched_by, IsObject};
+ghost use Rattle.bus_semantics.specs.Common.{Plan, plan_of, wanted_of, first_machine, object_of, touched_by, IsObject};
 
 use bus_semantics::{BusPlan, Deed, Entry, Wish, object_of};
 use rte_value::Value;

@@ -1,13 +1,8 @@
 //! Which starts an object allows, which entries can make one come, and which starts the last entry can have made come.
 
 ghost use Rattle.std.specs.Prelude.{◌≡◌, ℕ, true, false, None, Some, unwrap_or};
-ghost use Rattle.rte_value.specs.declared.kinds.ActKey.{ActKey};
+ghost use Rattle.bus_semantics.specs.Common.{ActKey, wish_fits, object_of, to_hear, wanted_by, Plan, Noted};
 ghost use Rattle.bus_semantics.specs.declared.entries.Actor.TheVariants.{Act};
-ghost use Rattle.bus_semantics.specs.Fitting.{wish_fits};
-ghost use Rattle.bus_semantics.specs.Objects.{object_of};
-ghost use Rattle.bus_semantics.specs.Wanted.{to_hear, wanted_by};
-ghost use Rattle.bus_semantics.specs.Plan.{Plan};
-ghost use Rattle.bus_semantics.specs.History.{Noted};
 ghost use Rattle.object_kinds.specs.Kinds.{IsPlainStart};
 ghost use Rattle.port_objects.specs.Kept.{Kept};
 ghost use Rattle.port_objects.specs.Leading.{lead};

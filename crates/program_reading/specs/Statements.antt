@@ -2,7 +2,9 @@
 use Rattle.std.specs.Prelude.{ℕ, ◌^◌, pos, List, [], ◌∷◌, map, slice_get, Option, Some, None}
 use Rattle.serde_json.specs.Data.{Data, null, boolean, number, string, array, object, Items, no_items, item}
 use Rattle.serde_json.specs.Find.{at}
-use Rattle.runnable_lang.specs.Trees.{ExprTree, constant, StmtTree, sets, chooses, repeats, in_area, writes, reads, invalidates, asks_updated, sends, receives, writes_late, reads_early, writes_variable, reads_variable, writes_variable_late, reads_variable_early, calls, calls_and_goes_on, takes_result, switches, asks_mode, BodyTree, done, in_order}
+use Rattle.runnable_lang.specs.Trees.{ExprTree, constant, StmtTree, sets, chooses, repeats, in_area, writes, reads, invalidates, asks_updated, sends, receives, writes_late, reads_early}
+use Rattle.runnable_lang.specs.Trees.{writes_variable, reads_variable, writes_variable_late, reads_variable_early, calls, calls_and_goes_on, takes_result, switches, asks_mode, BodyTree}
+use Rattle.runnable_lang.specs.Trees.{done, in_order}
 use Rattle.declared_names.specs.declared.in_component.ComponentNames.{ComponentNames}
 use Rattle.program_reading.specs.declared.in_program.InProgram.{InProgram}
 use Rattle.program_reading.specs.declared.keywords.Keyword.{Keyword}

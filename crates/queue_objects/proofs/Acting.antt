@@ -1,35 +1,16 @@
 -- What the calls of a group answer is what the lead gives.
 use Rattle.std.proofs.Common.{◌≡◌, ℕ, ℤ, Bool, true, false, ◌&&◌, ◌==◌, if◌then◌else◌, refl, sym, ◌∙◌, ap, subst, List, [], length, Option, Some, None}
 use Rattle.std.specs.Prelude.{is_none, unwrap_or, option_map}
-use Rattle.std.specs.List.{Contains, list_all, slice_get}
-use Rattle.std.specs.Option.{option_map_or}
-use Rattle.std.proofs.lemmas.Bool.{and_parts, eq-eqb, eqb-true, false≢true}
-use Rattle.rte_value.specs.declared.value.Value.{Value}
-use Rattle.rte_value.specs.Values.{words_of, same_words}
-use Rattle.rte_value.specs.ShortValues.{empty_value}
-use Rattle.rte_value.specs.EqualValues.{same_words-Decides}
-use Rattle.bus_semantics.specs.declared.plan.ElemPlan.{ElemPlan}
-use Rattle.bus_semantics.specs.declared.plan.EventKind.{EventKind}
-use Rattle.bus_semantics.specs.declared.plan.EventKind.TheVariants.{DataReceived}
-use Rattle.bus_semantics.specs.declared.entries.Actor.{Actor}
-use Rattle.bus_semantics.specs.declared.entries.Deed.{Deed}
+use Rattle.bus_semantics.specs.Common.{Contains, list_all, slice_get, option_map_or, and_parts, eq-eqb, eqb-true, false≢true, Value, words_of, same_words, empty_value, same_words-Decides}
+use Rattle.bus_semantics.specs.Common.{Plan, look, kind_of, bundle_of, Wanted, to_start, to_send, to_receive, is_queued, holds, wish_fits, answer_fits, start_fits, is_in_group, event_of}
+use Rattle.bus_laws.specs.Common.{ElemPlan, EventKind, DataReceived, Actor, Deed}
 use Rattle.bus_semantics.specs.declared.entries.Deed.TheVariants as deed
-use Rattle.bus_semantics.specs.Plan.{Plan, look, kind_of}
-use Rattle.bus_semantics.specs.Bundles.{bundle_of}
-use Rattle.bus_semantics.specs.Wanted.{Wanted, to_start, to_send, to_receive}
-use Rattle.bus_semantics.specs.Owners.{is_queued, holds}
-use Rattle.bus_semantics.specs.Fitting.{wish_fits, answer_fits, start_fits}
-use Rattle.bus_semantics.specs.Unqueued.{is_in_group}
-use Rattle.bus_semantics.specs.Asked.{event_of}
 use Rattle.queued_ports.specs.declared.received.Received.{Received}
 use Rattle.queued_ports.specs.Kept as ports
 use Rattle.object_kinds.specs.declared.acted.Acted.{Acted}
 use Rattle.object_kinds.specs.declared.acted.Acted.TheVariants.{Done, NotYet}
 use Rattle.object_kinds.specs.declared.acted.Shown.{Shown}
-use Rattle.object_kinds.specs.Kinds.{IsAnswerOf}
-use Rattle.object_kinds.specs.Layout.{group_at, place, members_of}
-use Rattle.object_kinds.specs.Flags.{given, is_set, is_pending}
-use Rattle.object_kinds.specs.Rising.{is_rising}
+use Rattle.object_kinds.specs.Common.{IsAnswerOf, group_at, place, members_of, given, is_set, is_pending, is_rising}
 use Rattle.object_kinds.proofs.Events.{events_all}
 use Rattle.object_kinds.proofs.Flags.{pending_cleared}
 use Rattle.object_kinds.proofs.Lists.{all_at, set_same}

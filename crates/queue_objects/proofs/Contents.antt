@@ -1,18 +1,12 @@
 -- What is in a queue after each entry is what the definitions give.
-use Rattle.std.proofs.Common.{◌≡◌, ◌≤◌, ◌+◌, ◌-◌, ℕ, zero, suc, Bool, true, false, ◌&&◌, ◌||◌, ◌==◌, not, if◌then◌else◌, refl, sym, ◌∙◌, ap, arith, List, [], ◌∷◌, ◌++◌, length, map, drop, Some, None, is_some}
+use Rattle.std.proofs.Common.{◌≡◌, ◌≤◌, ◌+◌, ◌-◌, ℕ, zero, suc, Bool, true, false, ◌&&◌, ◌||◌, ◌==◌, not, if◌then◌else◌, refl, sym, ◌∙◌, ap, arith, List, [], ◌∷◌, ◌++◌, length, map, drop}
+use Rattle.std.proofs.Common.{Some, None, is_some}
 use Rattle.std.specs.Prelude.{nat_lt}
-use Rattle.std.specs.List.{slice_get}
-use Rattle.std.proofs.lemmas.Bool.{and_parts, eq-eqb, eqb-true}
-use Rattle.std.proofs.lemmas.Bool.Decides.{nat_tests}
-use Rattle.std.proofs.lemmas.List.{drop-append-le, drop-map, length-drop, length-map, map_push}
-use Rattle.rte_value.specs.declared.value.Value.{Value}
-use Rattle.rte_value.specs.Values.{words_of}
+use Rattle.bus_semantics.specs.Common.{slice_get, and_parts, eq-eqb, eqb-true, nat_tests, length-drop, length-map, Value, words_of, Plan, Noted, Past, accepted_at, taken_at, takes_at}
+use Rattle.bus_semantics.specs.Common.{sent_to, with_sent, is_room, places_at, has_room_at, has_lost, discards_next, is_receive_of, is_receiver_in, is_in_group}
+use Rattle.std.proofs.lemmas.List.{drop-append-le, drop-map, map_push}
 use Rattle.bus_semantics.specs.declared.plan.ElemPlan.{ElemPlan}
 use Rattle.bus_semantics.specs.declared.entries.Deed.TheVariants as deed
-use Rattle.bus_semantics.specs.Plan.{Plan}
-use Rattle.bus_semantics.specs.History.{Noted, Past}
-use Rattle.bus_semantics.specs.Queued.{accepted_at, taken_at, takes_at, sent_to, with_sent, is_room, places_at, has_room_at, has_lost, discards_next, is_receive_of, is_receiver_in}
-use Rattle.bus_semantics.specs.Unqueued.{is_in_group}
 use Rattle.queued_ports.specs.Kept as ports
 use Rattle.object_kinds.proofs.Ranges.{sought}
 use Rattle.queue_objects.specs.Layout.{is_receiver_at}

@@ -1,27 +1,11 @@
 -- What a group keeps after each of its entries is what the definitions give from its past and the entry.
 use Rattle.std.proofs.Common.{◌≡◌, ℕ, Bool, true, false, ◌&&◌, ◌||◌, ◌==◌, not, refl, sym, ◌∙◌, ap, subst, List, [], ◌∷◌, length, map, Option, Some, None, is_some}
 use Rattle.std.specs.Prelude.{set, unwrap_or, option_map}
-use Rattle.std.specs.List.{list_all, slice_get}
-use Rattle.std.specs.Option.{option_map_or}
-use Rattle.std.proofs.lemmas.Bool.{and_parts, eq-eqb, eqb-true, false≢true}
-use Rattle.std.proofs.lemmas.List.{map-set}
-use Rattle.std.proofs.lemmas.Option.{slice_get-map, slice_get_within}
-use Rattle.rte_value.specs.declared.value.Value.{Value}
-use Rattle.rte_value.specs.Values.{words_of}
-use Rattle.bus_semantics.specs.declared.plan.ElemPlan.{ElemPlan}
-use Rattle.bus_semantics.specs.declared.plan.EventKind.{EventKind}
-use Rattle.bus_semantics.specs.declared.plan.EventKind.TheVariants.{DataReceived}
-use Rattle.bus_semantics.specs.declared.entries.Actor.{Actor}
-use Rattle.bus_semantics.specs.declared.entries.Actor.TheVariants.{Env}
-use Rattle.bus_semantics.specs.declared.entries.Deed.{Deed}
+use Rattle.bus_semantics.specs.Common.{list_all, slice_get, option_map_or, and_parts, eq-eqb, eqb-true, false≢true, map-set, slice_get-map, slice_get_within, Value, words_of, Plan, kind_of}
+use Rattle.bus_semantics.specs.Common.{positions, Noted, Past, is_in_group, stored_in, sent_in, sent_to, has_room_at, accepts_next, is_start_by, follows_last, brings_data, is_due_kind}
+use Rattle.bus_semantics.specs.Common.{is_distinct}
+use Rattle.bus_laws.specs.Common.{ElemPlan, EventKind, DataReceived, Actor, Env, Deed}
 use Rattle.bus_semantics.specs.declared.entries.Deed.TheVariants as deed
-use Rattle.bus_semantics.specs.Plan.{Plan, kind_of, positions}
-use Rattle.bus_semantics.specs.History.{Noted, Past}
-use Rattle.bus_semantics.specs.Unqueued.{is_in_group, stored_in}
-use Rattle.bus_semantics.specs.Queued.{sent_in, sent_to, has_room_at, accepts_next}
-use Rattle.bus_semantics.specs.Owed.{is_start_by}
-use Rattle.bus_semantics.specs.Due.{follows_last, brings_data, is_due_kind}
-use Rattle.bus_semantics.specs.SoundPlan.{is_distinct}
 use Rattle.queued_ports.specs.Kept as ports
 use Rattle.object_kinds.specs.Layout.{place, element_in}
 use Rattle.object_kinds.proofs.Events.{events_all, events_once}

@@ -1,32 +1,13 @@
 -- The law of leads: an entry by which a group leads on follows its past, and what is kept then is what the definitions give.
 use Rattle.std.proofs.Common.{◌≡◌, ℕ, ℤ, zero, suc, Bool, true, false, ◌&&◌, ◌==◌, not, if◌then◌else◌, refl, sym, ◌∙◌, ap, subst, List, [], ◌∷◌, length, map, drop, Option, Some, None}
 use Rattle.std.specs.Prelude.{option_map}
-use Rattle.std.specs.List.{list_any, slice_get}
-use Rattle.std.specs.Option.{option_map_or}
-use Rattle.std.proofs.lemmas.Bool.{false≢true}
-use Rattle.rte_value.specs.declared.value.Value.{Value}
-use Rattle.rte_value.specs.Values.{words_of}
-use Rattle.bus_semantics.specs.declared.plan.ElemPlan.{ElemPlan}
-use Rattle.bus_semantics.specs.declared.plan.EventKind.{EventKind}
-use Rattle.bus_semantics.specs.declared.plan.EventKind.TheVariants.{DataReceived}
-use Rattle.bus_semantics.specs.declared.entries.Actor.{Actor}
-use Rattle.bus_semantics.specs.declared.entries.Deed.{Deed}
+use Rattle.bus_semantics.specs.Common.{list_any, slice_get, option_map_or, false≢true, Value, words_of, Plan, look, kind_of, positions, Noted, Past, start_fits, touches, accepted_at}
+use Rattle.bus_semantics.specs.Common.{taken_at, has_lost, has_room_at, is_receiver_in, is_full_in, send_code, received_at, starts_request, is_due, is_due_kind, is_outcome, start_matches}
+use Rattle.bus_semantics.specs.Common.{is_proper, Follows}
+use Rattle.bus_laws.specs.Common.{ElemPlan, EventKind, DataReceived, Actor, Deed}
 use Rattle.bus_semantics.specs.declared.entries.Deed.TheVariants as deed
-use Rattle.bus_semantics.specs.Plan.{Plan, look, kind_of, positions}
-use Rattle.bus_semantics.specs.History.{Noted, Past}
-use Rattle.bus_semantics.specs.Fitting.{start_fits}
-use Rattle.bus_semantics.specs.Objects.{touches}
-use Rattle.bus_semantics.specs.Queued.{accepted_at, taken_at, has_lost, has_room_at, is_receiver_in, is_full_in, send_code, received_at}
-use Rattle.bus_semantics.specs.Calls.{starts_request}
-use Rattle.bus_semantics.specs.Due.{is_due, is_due_kind}
-use Rattle.bus_semantics.specs.Legal.{is_outcome}
-use Rattle.bus_semantics.specs.Matching.{start_matches}
-use Rattle.bus_semantics.specs.Locality.{is_proper}
-use Rattle.bus_semantics.specs.Pasts.{Follows}
 use Rattle.queued_ports.specs.Kept as ports
-use Rattle.object_kinds.specs.Kinds.{LeadsFollow, LeadsKeep}
-use Rattle.object_kinds.specs.Layout.{group_at, IsAlone, place}
-use Rattle.object_kinds.specs.Flags.{given, is_set}
+use Rattle.object_kinds.specs.Common.{LeadsFollow, LeadsKeep, group_at, IsAlone, place, given, is_set}
 use Rattle.object_kinds.proofs.Flags.{flag_set}
 use Rattle.object_kinds.proofs.Lists.{mapped_at, all_at}
 use Rattle.object_kinds.proofs.Members.{member_of}

@@ -1,8 +1,7 @@
 -- Two lists of which one function gives the same by place, and what is picked of what was picked.
 use Rattle.std.proofs.Common.{◌≡◌, Bool, true, false, ◌&&◌, ◌||◌, if◌then◌else◌, refl, sym, ◌∙◌, ap, List, [], ◌∷◌, map}
 use Rattle.std.specs.Prelude.{filter}
-use Rattle.std.specs.List.{list_all, list_any}
-use Rattle.std.proofs.lemmas.Bool.{and_parts, false≢true}
+use Rattle.bus_semantics.specs.Common.{list_all, list_any, and_parts, false≢true}
 
 module _ {A B C : Type 0} (f : A → C) (g : B → C) (ok : B → Bool) where
   -- what follows by place follows of the whole

@@ -1,31 +1,12 @@
 -- A group of a sound plan misses no entry that may follow its past.
 use Rattle.std.proofs.Common.{◌≡◌, ℕ, Bool, true, false, not, ◌&&◌, ◌==◌, if◌then◌else◌, refl, sym, ◌∙◌, ap, Option, Some, is_some}
 use Rattle.std.specs.Prelude.{option_map}
-use Rattle.std.specs.List.{slice_get}
-use Rattle.std.specs.Option.{option_map_or}
-use Rattle.std.proofs.lemmas.Bool.{eq-eqb, false≢true}
-use Rattle.rte_value.specs.declared.value.Value.{Value}
-use Rattle.rte_value.specs.Values.{words_of}
-use Rattle.bus_semantics.specs.declared.plan.ElemPlan.{ElemPlan}
-use Rattle.bus_semantics.specs.declared.plan.EventKind.TheVariants.{DataReceived}
-use Rattle.bus_semantics.specs.declared.script.Mapping.{Mapping}
-use Rattle.bus_semantics.specs.declared.entries.Actor.{Actor}
-use Rattle.bus_semantics.specs.declared.entries.Actor.TheVariants.{Env}
-use Rattle.bus_semantics.specs.declared.entries.Deed.{Deed}
+use Rattle.bus_semantics.specs.Common.{slice_get, option_map_or, eq-eqb, false≢true, Value, words_of, Plan, kind_of, Past, is_in_group, is_receiver_in, send_code, received_at, is_due}
+use Rattle.bus_semantics.specs.Common.{is_due_kind, is_outcome, Answers, is_proper, IsPastOf, IsSound}
+use Rattle.bus_laws.specs.Common.{ElemPlan, DataReceived, Mapping, Actor, Env, Deed}
 use Rattle.bus_semantics.specs.declared.entries.Deed.TheVariants as deed
-use Rattle.bus_semantics.specs.Plan.{Plan, kind_of}
-use Rattle.bus_semantics.specs.History.{Past}
-use Rattle.bus_semantics.specs.Unqueued.{is_in_group}
-use Rattle.bus_semantics.specs.Queued.{is_receiver_in, send_code, received_at}
-use Rattle.bus_semantics.specs.Due.{is_due, is_due_kind}
-use Rattle.bus_semantics.specs.Legal.{is_outcome, Answers}
-use Rattle.bus_semantics.specs.Locality.{is_proper}
-use Rattle.bus_semantics.specs.Pasts.{IsPastOf}
-use Rattle.bus_semantics.specs.Sound.{IsSound}
 use Rattle.queued_ports.specs.Kept as ports
-use Rattle.object_kinds.specs.Kinds.{MissesNothing}
-use Rattle.object_kinds.specs.Layout.{group_at, waits_for_data, place}
-use Rattle.object_kinds.specs.Flags.{given, is_set}
+use Rattle.object_kinds.specs.Common.{MissesNothing, group_at, waits_for_data, place, given, is_set}
 use Rattle.object_kinds.proofs.Events as data_events
 use Rattle.object_kinds.proofs.Events.{event_placed}
 use Rattle.object_kinds.proofs.Flags.{flag_there}

@@ -1,7 +1,6 @@
 -- What a group keeps at first is what the definitions give from no entry.
 use Rattle.std.proofs.Common.{◌≡◌, ℕ, false, refl, ◌∙◌, ap, List, [], ◌∷◌, map}
-use Rattle.bus_semantics.specs.Plan.{Plan, kind_of}
-use Rattle.bus_semantics.specs.Queued.{places_at}
+use Rattle.bus_semantics.specs.Common.{Plan, kind_of, places_at}
 use Rattle.queued_ports.specs.Kept as ports
 use Rattle.object_kinds.specs.Layout.{group_at, IsAlone, events_of}
 use Rattle.object_kinds.proofs.Events.{events_all}

@@ -1,21 +1,12 @@
 -- After any past the values that were taken at an element are the first of those that its queue accepted.
-use Rattle.std.proofs.Common.{◌≡◌, ◌≤◌, ◌<◌, ◌+◌, ℕ, ℤ, zero, suc, Bool, true, false, ◌||◌, ◌==◌, if◌then◌else◌, refl, sym, ◌∙◌, ap, subst, arith, List, [], ◌∷◌, ◌++◌, length, take, length-append, Option, Some, None}
-use Rattle.std.specs.List.{slice_get}
-use Rattle.std.specs.Option.{option_map_or}
-use Rattle.std.proofs.lemmas.Bool.{and_parts, eqb-true, false≢true, ltb-true}
-use Rattle.std.proofs.lemmas.List.{append-nil, take-append-le, take_more}
-use Rattle.std.proofs.lemmas.Option.{slice_get_within, get_or_from_slice_get}
-use Rattle.rte_value.specs.declared.value.Value.{Value}
-use Rattle.rte_value.specs.Values.{words_of}
-use Rattle.rte_value.specs.EqualValues.{same_words-Decides}
-use Rattle.bus_semantics.specs.declared.plan.ElemPlan.{ElemPlan}
-use Rattle.bus_semantics.specs.declared.entries.Deed.{Deed}
+use Rattle.std.proofs.Common.{◌≡◌, ◌≤◌, ◌<◌, ◌+◌, ℕ, ℤ, zero, suc, Bool, true, false, ◌||◌, ◌==◌, if◌then◌else◌, refl, sym, ◌∙◌, ap, subst, arith, List, [], ◌∷◌, ◌++◌, length, take}
+use Rattle.std.proofs.Common.{length-append, Option, Some, None}
+use Rattle.bus_semantics.specs.Common.{slice_get, option_map_or, and_parts, eqb-true, false≢true, ltb-true, append-nil, take_more, slice_get_within, get_or_from_slice_get, Value, words_of}
+use Rattle.bus_semantics.specs.Common.{same_words-Decides, Plan, History, Noted, Past, noted, accepted_at, taken_at, takes_at, sent_in, sent_to, with_sent, is_room, places_at, received_at}
+use Rattle.bus_semantics.specs.Common.{has_lost, queued_allows, is_outcome, IsLegal, IsPastOf}
+use Rattle.std.proofs.lemmas.List.{take-append-le}
+use Rattle.bus_laws.specs.Common.{ElemPlan, Deed}
 use Rattle.bus_semantics.specs.declared.entries.Deed.TheVariants as deed
-use Rattle.bus_semantics.specs.Plan.{Plan}
-use Rattle.bus_semantics.specs.History.{History, Noted, Past, noted}
-use Rattle.bus_semantics.specs.Queued.{accepted_at, taken_at, takes_at, sent_in, sent_to, with_sent, is_room, places_at, received_at, has_lost}
-use Rattle.bus_semantics.specs.Legal.{queued_allows, is_outcome, IsLegal}
-use Rattle.bus_semantics.specs.Pasts.{IsPastOf}
 use Rattle.queue_objects.specs.Order.{value_taken, values_taken}
 pub use Rattle.bus_laws.proofs.QueueLaws.{receive_sends_none, takes_oldest, bounded}
 

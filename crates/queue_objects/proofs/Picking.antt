@@ -1,17 +1,10 @@
 -- How the parts of a group are made of a plan.
 use Rattle.std.proofs.Common.{◌≡◌, ◌<◌, ℕ, true, sym, ◌∙◌, ap, subst, List, length, map, Some, None}
 use Rattle.std.specs.Prelude.{All, filter, slice_index_or, unwrap_or}
-use Rattle.std.specs.Option.{option_map_or}
-use Rattle.std.proofs.lemmas.Bool.{eq-eqb, false≢true}
+use Rattle.bus_semantics.specs.Common.{option_map_or, eq-eqb, false≢true, same_number, Plan, kind_of, positions, is_in_group}
 use Rattle.std.proofs.lemmas.List.Elements.{All-map}
-use Rattle.rte_value.specs.Values.{same_number}
-use Rattle.bus_semantics.specs.declared.plan.ElemPlan.{ElemPlan}
-use Rattle.bus_semantics.specs.declared.plan.EventKind.{EventKind}
-use Rattle.bus_semantics.specs.declared.plan.EventKind.TheVariants.{DataReceived}
-use Rattle.bus_semantics.specs.Plan.{Plan, kind_of, positions}
-use Rattle.bus_semantics.specs.Unqueued.{is_in_group}
-use Rattle.object_kinds.specs.Layout.{members_of, events_of, waits_for_data, place, element_in}
-use Rattle.object_kinds.specs.Rising.{is_rising}
+use Rattle.bus_laws.specs.Common.{ElemPlan, EventKind, DataReceived}
+use Rattle.object_kinds.specs.Common.{members_of, events_of, waits_for_data, place, element_in, is_rising}
 use Rattle.object_kinds.proofs.Placing.{place_within}
 use Rattle.object_kinds.proofs.Rising.{rising_positions}
 use Rattle.queue_objects.specs.Layout.{is_receiver_at, receivers_of, waits_for_receiver, receiver_of}

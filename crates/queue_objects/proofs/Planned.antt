@@ -1,23 +1,11 @@
 -- In a sound plan a group with a queued element is a group of queued elements, and its queues are few enough.
-use Rattle.std.proofs.Common.{◌≡◌, ◌<◌, ◌≤◌, ◌+◌, ◌^◌, ℕ, zero, suc, Bool, true, false, ◌&&◌, ◌||◌, ◌==◌, not, if◌then◌else◌, refl, sym, ◌∙◌, ap, subst, arith, List, [], ◌∷◌, length, map, take, get_or, Some}
+use Rattle.std.proofs.Common.{◌≡◌, ◌<◌, ◌≤◌, ◌+◌, ◌^◌, ℕ, zero, suc, Bool, true, false, ◌&&◌, ◌||◌, ◌==◌, not, if◌then◌else◌, refl, sym, ◌∙◌, ap, subst, arith, List, [], ◌∷◌, length, map}
+use Rattle.std.proofs.Common.{take, get_or, Some}
 use Rattle.std.specs.Prelude.{filter, sum}
-use Rattle.std.specs.List.{list_all, slice_get, sum_by}
-use Rattle.std.specs.Option.{option_map_or}
-use Rattle.std.proofs.lemmas.Bool.{and_parts, eq-eqb, eqb-true, false≢true, leb-true}
-use Rattle.std.proofs.lemmas.List.{take_more, take_all}
+use Rattle.bus_semantics.specs.Common.{list_all, slice_get, sum_by, option_map_or, and_parts, eq-eqb, eqb-true, false≢true, leb-true, take_more, take_all, slice_get-get_or, Plan, look}
+use Rattle.bus_semantics.specs.Common.{positions, is_queued, is_unqueued, is_in_group, places_at, is_variable, agrees, IsSound, sum_over, queue_lengths}
 use Rattle.std.proofs.lemmas.List.Sums.{sum-map, sum_by-append}
-use Rattle.std.proofs.lemmas.Option.{slice_get-get_or}
-use Rattle.bus_semantics.specs.declared.plan.ElemPlan.{ElemPlan}
-use Rattle.bus_semantics.specs.declared.plan.ElemKind.{ElemKind}
-use Rattle.bus_semantics.specs.declared.plan.ElemKind.TheVariants.{Unqueued, Queued, Variable}
-use Rattle.bus_semantics.specs.declared.script.Mapping.{Mapping}
-use Rattle.bus_semantics.specs.Plan.{Plan, look, positions}
-use Rattle.bus_semantics.specs.Owners.{is_queued, is_unqueued}
-use Rattle.bus_semantics.specs.Unqueued.{is_in_group}
-use Rattle.bus_semantics.specs.Queued.{places_at}
-use Rattle.bus_semantics.specs.SoundPlan.{is_variable}
-use Rattle.bus_semantics.specs.SoundElements.{agrees}
-use Rattle.bus_semantics.specs.Sound.{IsSound, sum_over, queue_lengths}
+use Rattle.bus_laws.specs.Common.{ElemPlan, ElemKind, Unqueued, Queued, Variable, Mapping}
 use Rattle.object_kinds.specs.Layout.{members_of}
 use Rattle.object_kinds.proofs.Lists.{all_at}
 use Rattle.object_kinds.proofs.Members.{member_of, member_placed, members_all, inside_within}

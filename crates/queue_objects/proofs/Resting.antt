@@ -1,15 +1,8 @@
 -- What is in a queue is what was accepted and not taken.
 use Rattle.std.proofs.Common.{◌≡◌, ◌≤◌, ◌-◌, ◌+◌, ℕ, sym, ◌∙◌, ap, subst, arith, ◌++◌, length, map, Some}
-use Rattle.std.specs.List.{slice_get}
-use Rattle.std.proofs.lemmas.List.{length-drop, length-map, take-append-drop}
-use Rattle.std.proofs.lemmas.Option.{same_Some}
-use Rattle.rte_value.specs.Values.{words_of}
-use Rattle.bus_semantics.specs.Plan.{Plan}
-use Rattle.bus_semantics.specs.History.{Past}
-use Rattle.bus_semantics.specs.Queued.{accepted_at, taken_at, places_at}
+use Rattle.bus_semantics.specs.Common.{slice_get, length-drop, length-map, take-append-drop, same_Some, words_of, Plan, Past, accepted_at, taken_at, places_at}
 use Rattle.queued_ports.specs.Kept.{Queue}
-use Rattle.object_kinds.specs.Kinds.{StandsFor}
-use Rattle.object_kinds.specs.Layout.{place}
+use Rattle.object_kinds.specs.Common.{StandsFor, place}
 use Rattle.queue_objects.specs.Kept.{Kept}
 use Rattle.queue_objects.specs.Order.{values_taken}
 use Rattle.queue_objects.specs.Standing.{Contents, contents_of, contents_after, Keeps}

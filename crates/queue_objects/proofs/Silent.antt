@@ -1,33 +1,13 @@
 -- In a sound plan nothing is sent to a required element without a join, so an event that waits for it is never due.
-use Rattle.std.proofs.Common.{◌≡◌, ◌<◌, ◌≤◌, ◌+◌, ℕ, zero, suc, Bool, true, false, ◌&&◌, ◌||◌, ◌==◌, not, if◌then◌else◌, refl, sym, ◌∙◌, ap, subst, arith, List, [], ◌∷◌, length, Option, Some, None, is_some}
+use Rattle.std.proofs.Common.{◌≡◌, ◌<◌, ◌≤◌, ◌+◌, ℕ, zero, suc, Bool, true, false, ◌&&◌, ◌||◌, ◌==◌, not, if◌then◌else◌, refl, sym, ◌∙◌, ap, subst, arith, List, [], ◌∷◌, length, Option}
+use Rattle.std.proofs.Common.{Some, None, is_some}
 use Rattle.std.specs.Prelude.{filter}
-use Rattle.std.specs.List.{list_all, slice_get}
-use Rattle.std.specs.Option.{option_map_or}
-use Rattle.std.proofs.lemmas.Bool.{and_parts, eq-eqb, eqb-true, false≢true}
-use Rattle.std.proofs.lemmas.Option.{slice_get_within}
-use Rattle.rte_value.specs.declared.value.Value.{Value}
-use Rattle.rte_value.specs.Values.{words_of, same_number}
-use Rattle.bus_semantics.specs.declared.plan.ElemPlan.{ElemPlan}
-use Rattle.bus_semantics.specs.declared.plan.EventPlan.{EventPlan}
-use Rattle.bus_semantics.specs.declared.plan.EventKind.TheVariants.{Init, DataReceived}
-use Rattle.bus_semantics.specs.declared.script.Mapping.{Mapping}
-use Rattle.bus_semantics.specs.declared.entries.Actor.{Actor}
-use Rattle.bus_semantics.specs.declared.entries.Deed.{Deed}
+use Rattle.bus_semantics.specs.Common.{list_all, slice_get, option_map_or, and_parts, eq-eqb, eqb-true, false≢true, slice_get_within, Value, words_of, same_number, Plan, look, group_of}
+use Rattle.bus_semantics.specs.Common.{kind_of, instance_of, Noted, Past, to_send, to_receive, elem_fits, is_queued, holds, is_in_group, stored_in, sent_in, sent_to, accepts_next}
+use Rattle.bus_semantics.specs.Common.{has_room_at, is_receiver_in, is_start_by, follows_last, brings_data, is_proper, IsPastOf, is_variable, agrees, has_side, count_side, kind_sound}
+use Rattle.bus_semantics.specs.Common.{IsSound}
+use Rattle.bus_laws.specs.Common.{ElemPlan, EventPlan, Init, DataReceived, Mapping, Actor, Deed}
 use Rattle.bus_semantics.specs.declared.entries.Deed.TheVariants as deed
-use Rattle.bus_semantics.specs.Plan.{Plan, look, group_of, kind_of, instance_of}
-use Rattle.bus_semantics.specs.History.{Noted, Past}
-use Rattle.bus_semantics.specs.Wanted.{to_send, to_receive}
-use Rattle.bus_semantics.specs.Owners.{elem_fits, is_queued, holds}
-use Rattle.bus_semantics.specs.Unqueued.{is_in_group, stored_in}
-use Rattle.bus_semantics.specs.Queued.{sent_in, sent_to, accepts_next, has_room_at, is_receiver_in}
-use Rattle.bus_semantics.specs.Owed.{is_start_by}
-use Rattle.bus_semantics.specs.Due.{follows_last, brings_data}
-use Rattle.bus_semantics.specs.Locality.{is_proper}
-use Rattle.bus_semantics.specs.Pasts.{IsPastOf}
-use Rattle.bus_semantics.specs.SoundPlan.{is_variable}
-use Rattle.bus_semantics.specs.SoundElements.{agrees, has_side, count_side}
-use Rattle.bus_semantics.specs.SoundEvents.{kind_sound}
-use Rattle.bus_semantics.specs.Sound.{IsSound}
 use Rattle.bus_laws.proofs.ObjectLists.{IsUnnamed, unnamed_stores_none}
 use Rattle.object_kinds.proofs.Lists.{all_at}
 use Rattle.object_kinds.proofs.Members.{member_of, member_placed}

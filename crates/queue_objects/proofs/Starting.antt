@@ -1,16 +1,11 @@
 -- A start goes by its flag, and only a send sets one.
 use Rattle.std.proofs.Common.{◌≡◌, ℕ, Bool, true, false, if◌then◌else◌, refl, sym, ◌∙◌, ap, subst, List, Option, Some, None}
 use Rattle.std.specs.Prelude.{option_map, unwrap_or}
-use Rattle.std.proofs.lemmas.Bool.{false≢true}
-use Rattle.rte_value.specs.declared.value.Value.{Value}
+use Rattle.bus_semantics.specs.Common.{false≢true, Value, Plan, to_start, wanted_by}
 use Rattle.bus_semantics.specs.declared.entries.Deed.{Deed}
 use Rattle.bus_semantics.specs.declared.entries.Deed.TheVariants as deed
-use Rattle.bus_semantics.specs.Plan.{Plan}
-use Rattle.bus_semantics.specs.Wanted.{to_start, wanted_by}
 use Rattle.queued_ports.specs.Kept as ports
-use Rattle.object_kinds.specs.Kinds.{StartsByFlag, OthersWakeNothing}
-use Rattle.object_kinds.specs.Layout.{place}
-use Rattle.object_kinds.specs.Flags.{given, is_set, is_pending}
+use Rattle.object_kinds.specs.Common.{StartsByFlag, OthersWakeNothing, place, given, is_set, is_pending}
 use Rattle.object_kinds.proofs.Flags.{pending_cleared}
 use Rattle.object_kinds.proofs.Options.{given_some, given_none, none_given, then_some, mapped_some}
 use Rattle.queue_objects.specs.Kept.{may_start}

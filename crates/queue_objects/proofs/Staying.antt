@@ -1,16 +1,11 @@
 -- No entry changes what a group is of its plan.
 use Rattle.std.proofs.Common.{◌≡◌, ℕ, Bool, true, false, ◌==◌, if◌then◌else◌, refl, sym, ◌∙◌, ap, subst, List, [], ◌∷◌, map, Option, Some, None}
 use Rattle.std.specs.Prelude.{set, option_map, unwrap_or}
-use Rattle.std.specs.List.{slice_get}
-use Rattle.std.proofs.lemmas.List.{map-set}
-use Rattle.std.proofs.lemmas.Option.{slice_get-map}
-use Rattle.rte_value.specs.declared.value.Value.{Value}
+use Rattle.bus_semantics.specs.Common.{slice_get, map-set, slice_get-map, Value, Plan}
 use Rattle.bus_semantics.specs.declared.entries.Deed.{Deed}
 use Rattle.bus_semantics.specs.declared.entries.Deed.TheVariants as deed
-use Rattle.bus_semantics.specs.Plan.{Plan}
 use Rattle.queued_ports.specs.Kept as ports
-use Rattle.object_kinds.specs.Layout.{place}
-use Rattle.object_kinds.specs.Flags.{given, is_set}
+use Rattle.object_kinds.specs.Common.{place, given, is_set}
 use Rattle.object_kinds.proofs.Lists.{set_same}
 use Rattle.object_kinds.proofs.Options.{given_some, then_some}
 use Rattle.queue_objects.specs.Kept.{Kept}

@@ -1,13 +1,9 @@
 -- What a send tells is exactly what it made pending.
 use Rattle.std.proofs.Common.{◌≡◌, ℕ, zero, suc, Bool, true, false, refl, sym, ◌∙◌, ap, List, [], ◌∷◌, Option, Some, None}
-use Rattle.std.specs.List.{Contains, slice_get}
-use Rattle.std.proofs.lemmas.Bool.{false≢true}
-use Rattle.rte_value.specs.declared.value.Value.{Value}
+use Rattle.bus_semantics.specs.Common.{Contains, slice_get, false≢true, Value}
 use Rattle.bus_semantics.specs.declared.entries.Deed.{Deed}
 use Rattle.queued_ports.specs.Kept as ports
-use Rattle.object_kinds.specs.Layout.{place}
-use Rattle.object_kinds.specs.Flags.{is_set, is_pending}
-use Rattle.object_kinds.specs.Rising.{is_rising}
+use Rattle.object_kinds.specs.Common.{place, is_set, is_pending, is_rising}
 use Rattle.object_kinds.proofs.Flags.{flag_is}
 use Rattle.object_kinds.proofs.Options.{clash}
 use Rattle.object_kinds.proofs.Placing.{place_at}

@@ -1,14 +1,9 @@
 -- What the calls of a group answer, each for its own wish: the entry by which what was kept leads on, or that no deed of the wish leads
 -- anywhere.
 use Rattle.std.specs.Prelude.{◌≡◌, ℕ, [], Bool, true, false, ◌&&◌, Option, Some, None, is_none}
-use Rattle.std.specs.List.{Contains}
-use Rattle.rte_value.specs.Values.{words_of, same_words}
-use Rattle.bus_semantics.specs.declared.entries.Actor.{Actor}
-use Rattle.bus_semantics.specs.declared.entries.Deed.{Deed}
+use Rattle.bus_semantics.specs.Common.{Contains, words_of, same_words, Plan, Wanted, wanted_by}
+use Rattle.bus_laws.specs.Common.{Actor, Deed, Entry}
 use Rattle.bus_semantics.specs.declared.entries.Deed.TheVariants as deed
-use Rattle.bus_semantics.specs.declared.entries.Entry.{Entry}
-use Rattle.bus_semantics.specs.Plan.{Plan}
-use Rattle.bus_semantics.specs.Wanted.{Wanted, wanted_by}
 use Rattle.queued_ports.specs.Kept as ports
 use Rattle.object_kinds.specs.declared.acted.Acted.{Acted}
 use Rattle.object_kinds.specs.declared.acted.Acted.TheVariants.{Done, NotYet}

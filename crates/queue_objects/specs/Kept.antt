@@ -1,10 +1,8 @@
 -- What a group of queued data elements keeps, as plain data (SWS_RTE: Rte_Send, Rte_Receive, DataReceivedEvent).
 use Rattle.std.specs.Prelude.{ℕ, List, map, Bool}
-use Rattle.bus_semantics.specs.Plan.{Plan}
-use Rattle.bus_semantics.specs.Queued.{places_at}
+use Rattle.bus_semantics.specs.Common.{Plan, places_at}
 use Rattle.queued_ports.specs.Kept as ports
-use Rattle.object_kinds.specs.Layout.{events_of, place}
-use Rattle.object_kinds.specs.Flags.{is_pending}
+use Rattle.object_kinds.specs.Common.{events_of, place, is_pending}
 use Rattle.queue_objects.specs.Layout.{receivers_of, waits_for_receiver, receiver_of, words_in}
 
 -- the group's receivers and the plan's DataReceivedEvents that wait for them, both in rising order, and what their queues keep

@@ -1,12 +1,7 @@
 -- What of a plan belongs to a group of queued data elements (SWS_RTE: Rte_Send, Rte_Receive, DataReceivedEvent).
 use Rattle.std.specs.Prelude.{◌≡◌, ℕ, ◌<◌, ◌==◌, List, length, filter, Bool, true, false, unwrap_or}
-use Rattle.std.specs.List.{list_all}
-use Rattle.bus_semantics.specs.declared.plan.ElemPlan.{ElemPlan}
-use Rattle.bus_semantics.specs.declared.plan.EventKind.{EventKind}
-use Rattle.bus_semantics.specs.declared.plan.EventKind.TheVariants.{DataReceived}
-use Rattle.bus_semantics.specs.Plan.{Plan, look, kind_of, positions}
-use Rattle.bus_semantics.specs.Owners.{is_queued}
-use Rattle.bus_semantics.specs.Queued.{is_receiver_in}
+use Rattle.bus_semantics.specs.Common.{list_all, Plan, look, kind_of, positions, is_queued, is_receiver_in}
+use Rattle.bus_laws.specs.Common.{ElemPlan, EventKind, DataReceived}
 use Rattle.object_kinds.specs.Layout.{members_of, place, element_in}
 
 -- ---- elements

@@ -1,19 +1,14 @@
 -- The lead: what a group keeps after an entry if it kept that before, or nothing if it would not answer so (SWS_RTE: Rte_Send,
 -- Rte_Receive, DataReceivedEvent). It is a function of the plan and of plain data, and knows no history. The entry touches the group.
 use Rattle.std.specs.Prelude.{ℕ, List, [], Bool, true, false, ◌&&◌, ◌==◌, if◌then◌else◌, Option, Some, None, option_map, option_and_then}
-use Rattle.rte_value.specs.declared.value.Value.{Value}
-use Rattle.rte_value.specs.Values.{words_of, same_words}
+use Rattle.bus_semantics.specs.Common.{Value, words_of, same_words, Plan, Noted, Wanted, to_start}
 use Rattle.bus_semantics.specs.declared.entries.Deed.{Deed}
 use Rattle.bus_semantics.specs.declared.entries.Deed.TheVariants as deed
-use Rattle.bus_semantics.specs.Plan.{Plan}
-use Rattle.bus_semantics.specs.History.{Noted}
-use Rattle.bus_semantics.specs.Wanted.{Wanted, to_start}
 use Rattle.queued_ports.specs.declared.received.Received.{Received}
 use Rattle.queued_ports.specs.Kept as ports
 use Rattle.object_kinds.specs.declared.acted.Shown.{Shown}
 use Rattle.object_kinds.specs.declared.acted.Shown.TheVariants.{NotDue, Unmatched}
-use Rattle.object_kinds.specs.Layout.{place}
-use Rattle.object_kinds.specs.Flags.{given, is_set}
+use Rattle.object_kinds.specs.Common.{place, given, is_set}
 use Rattle.queue_objects.specs.Layout.{is_joined_at}
 use Rattle.queue_objects.specs.Kept.{Kept}
 

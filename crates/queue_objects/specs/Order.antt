@@ -1,11 +1,9 @@
 -- In which order values are received (SWS_RTE: Rte_Receive, which takes the oldest value of the queue). Entries stand the newest first,
 -- values the oldest first.
 use Rattle.std.specs.Prelude.{ℕ, ℤ, List, [], ◌∷◌, ◌++◌, if◌then◌else◌}
-use Rattle.rte_value.specs.Values.{words_of}
+use Rattle.bus_semantics.specs.Common.{words_of, Past, takes_at}
 use Rattle.bus_semantics.specs.declared.entries.Deed.{Deed}
 use Rattle.bus_semantics.specs.declared.entries.Deed.TheVariants as deed
-use Rattle.bus_semantics.specs.History.{Past}
-use Rattle.bus_semantics.specs.Queued.{takes_at}
 
 -- the value of a Receive of the element that took one
 abbrev pub value_taken : (elem : ℕ) → Deed → List (List ℤ)

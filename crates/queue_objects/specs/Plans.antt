@@ -1,7 +1,6 @@
 -- A group as it is of a plan: all in it that no call changes.
 use Rattle.std.specs.Prelude.{◌≡◌, ℕ, map}
-use Rattle.bus_semantics.specs.Plan.{Plan}
-use Rattle.bus_semantics.specs.Queued.{places_at}
+use Rattle.bus_semantics.specs.Common.{Plan, places_at}
 use Rattle.queued_ports.specs.Kept as ports
 use Rattle.object_kinds.specs.Layout.{group_at, IsAlone, events_of}
 use Rattle.queue_objects.specs.Layout.{receivers_of, waits_for_receiver, receiver_of, words_in, IsQueuedGroup}

@@ -1,11 +1,7 @@
 -- What a group keeps, as the definitions give it from a past of the group.
 use Rattle.std.specs.Prelude.{◌≡◌, ℕ, ℤ, List, map, drop, Bool}
-use Rattle.rte_value.specs.Values.{words_of}
+use Rattle.bus_semantics.specs.Common.{words_of, Plan, Past, accepted_at, taken_at, has_lost, places_at, is_due}
 use Rattle.bus_semantics.specs.declared.entries.Actor.TheVariants.{Env}
-use Rattle.bus_semantics.specs.Plan.{Plan}
-use Rattle.bus_semantics.specs.History.{Past}
-use Rattle.bus_semantics.specs.Queued.{accepted_at, taken_at, has_lost, places_at}
-use Rattle.bus_semantics.specs.Due.{is_due}
 use Rattle.queued_ports.specs.Kept as ports
 use Rattle.object_kinds.specs.Layout.{group_at, IsAlone, events_of}
 use Rattle.queue_objects.specs.Layout.{receivers_of, waits_for_receiver, receiver_of, words_in, IsQueuedGroup}

@@ -1,8 +1,7 @@
 //! The elements and events of a group.
 
 ghost use Rattle.std.specs.Prelude.{◌≡◌};
-ghost use Rattle.bus_semantics.specs.Plan.{plan_of, kind_of};
-ghost use Rattle.bus_semantics.specs.Queued.{places_at};
+ghost use Rattle.bus_semantics.specs.Common.{plan_of, kind_of, places_at};
 ghost use Rattle.object_kinds.specs.Layout.{element_in};
 ghost use Rattle.queue_objects.specs.Layout.{is_joined_at, is_receiver_at, waits_for_receiver, words_at};
 

@@ -1,18 +1,10 @@
 //! Laws of groups of queued data elements.
 
 ghost use Rattle.std.specs.Prelude.{◌≡◌, ◌<◌, ◌≤◌, ◌++◌, ◌^◌, ℕ, ℤ, List, [], Some, length, map, slice_get, sum, take, true};
-ghost use Rattle.rte_value.specs.Values.{words_of};
+ghost use Rattle.bus_semantics.specs.Common.{words_of, Plan, History, Past, noted, IsLegal, IsPastOf, accepted_at, taken_at, places_at, is_in_group, IsSound};
 ghost use Rattle.bus_semantics.specs.declared.script.Mapping.{Mapping};
-ghost use Rattle.bus_semantics.specs.Plan.{Plan};
-ghost use Rattle.bus_semantics.specs.History.{History, Past, noted};
-ghost use Rattle.bus_semantics.specs.Legal.{IsLegal};
-ghost use Rattle.bus_semantics.specs.Pasts.{IsPastOf};
-ghost use Rattle.bus_semantics.specs.Queued.{accepted_at, taken_at, places_at};
-ghost use Rattle.bus_semantics.specs.Unqueued.{is_in_group};
-ghost use Rattle.bus_semantics.specs.Sound.{IsSound};
 ghost use Rattle.queued_ports.specs.Kept.{Queue};
-ghost use Rattle.object_kinds.specs.Layout.{group_at, IsAlone, place};
-ghost use Rattle.object_kinds.specs.Kinds.{StandsFor, LeadsFollow, LeadsKeep, MissesNothing, StartsByFlag, OthersWakeNothing};
+ghost use Rattle.object_kinds.specs.Common.{group_at, IsAlone, place, StandsFor, LeadsFollow, LeadsKeep, MissesNothing, StartsByFlag, OthersWakeNothing};
 ghost use Rattle.queue_objects.specs.Kept.{Kept, opening, may_start};
 ghost use Rattle.queue_objects.specs.Layout.{receivers_of, is_queued_at, IsQueuedGroup};
 ghost use Rattle.queue_objects.specs.Leading.{lead, wakes};

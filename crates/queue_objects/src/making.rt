@@ -1,9 +1,7 @@
 //! A group of a plan, made.
 
 ghost use Rattle.std.specs.Prelude.{◌≡◌, ◌<◌, ◌^◌, ◌++◌, [], ◌∷◌, IfOk, OnOk, if◌then◌else◌, filter, length, map, sum, true};
-ghost use Rattle.bus_semantics.specs.Plan.{plan_of, kind_of};
-ghost use Rattle.bus_semantics.specs.Queued.{places_at};
-ghost use Rattle.bus_semantics.specs.SoundPlan.{groups_fit};
+ghost use Rattle.bus_semantics.specs.Common.{plan_of, kind_of, places_at, groups_fit};
 ghost use Rattle.object_kinds.specs.Layout.{events_of, waits_for_data};
 ghost use Rattle.queue_objects.specs.Kept.{opening};
 ghost use Rattle.queue_objects.specs.Layout.{receivers_of, receiver_of, waits_for_receiver, words_in, IsQueuedGroup};

@@ -1,17 +1,11 @@
 //! A group of queued data elements with the plan's events that wait for it.
 
 ghost use Rattle.std.specs.Prelude.{◌≡◌, ℕ, length, true, false, Some};
-ghost use Rattle.std.specs.List.{Contains};
-ghost use Rattle.rte_value.specs.Values.{words_of};
+ghost use Rattle.bus_semantics.specs.Common.{Contains, words_of, wish_fits, Plan, plan_of, to_start, to_send, to_receive, wanted_of, object_of, touched};
 ghost use Rattle.bus_semantics.specs.declared.entries.Entry.{Entry};
-ghost use Rattle.bus_semantics.specs.Fitting.{wish_fits};
-ghost use Rattle.bus_semantics.specs.Plan.{Plan, plan_of};
-ghost use Rattle.bus_semantics.specs.Wanted.{to_start, to_send, to_receive, wanted_of};
-ghost use Rattle.bus_semantics.specs.Objects.{object_of, touched};
 ghost use Rattle.object_kinds.specs.declared.acted.Shown.{Shown};
 ghost use Rattle.object_kinds.specs.declared.acted.Acted.TheVariants.{Done, NotYet};
-ghost use Rattle.object_kinds.specs.Layout.{place};
-ghost use Rattle.object_kinds.specs.Kinds.{IsAnswerOf};
+ghost use Rattle.object_kinds.specs.Common.{place, IsAnswerOf};
 ghost use Rattle.queue_objects.specs.Acting.{IsActed, IsTaken};
 ghost use Rattle.queue_objects.specs.Kept.{may_start};
 ghost use Rattle.queue_objects.specs.Layout.{is_joined_at};

@@ -2,8 +2,7 @@
 
 ghost use Rattle.std.specs.Prelude.{◌≡◌, ◌+◌, [], IfOk, min};
 ghost use Rattle.bus_semantics.specs.Plan.{plan_of};
-ghost use Rattle.port_objects.specs.Objects.{ArePlans};
-ghost use Rattle.port_objects.specs.Plans.{HasObjects};
+ghost use Rattle.port_objects.specs.Common.{ArePlans, HasObjects};
 
 use bus_semantics::{Actor, BusPlan, Entry, Stamped, Wish};
 use port_objects::{Bench, Benched, Object, PlainBench};

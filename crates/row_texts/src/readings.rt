@@ -1,8 +1,7 @@
 //! Lines of traces, read back.
 
 ghost use Rattle.std.specs.Prelude.{◌≤◌, IfOk, length};
-ghost use Rattle.bus_semantics.specs.Plan.{plan_of};
-ghost use Rattle.bus_semantics.specs.Sound.{IsSound};
+ghost use Rattle.bus_semantics.specs.Common.{plan_of, IsSound};
 ghost use Rattle.trace_reading.specs.Readable.{IsReadable};
 
 use crate::fault::Fault;

@@ -1,14 +1,9 @@
 //! Two seats of one round, on one thread.
 
 ghost use Rattle.std.specs.Prelude.{◌≡◌, ◌<◌, ◌≤◌, [], length, true, IfOk};
-ghost use Rattle.bus_semantics.specs.Asked.{asks_its_own};
-ghost use Rattle.bus_semantics.specs.Fitting.{wish_fits};
-ghost use Rattle.bus_semantics.specs.Plan.{plan_of};
-ghost use Rattle.bus_semantics.specs.Sound.{IsSound};
-ghost use Rattle.bus_semantics.specs.Wanted.{wanted_of};
-ghost use Rattle.cross_core_table.specs.Logs.{plan_in};
+ghost use Rattle.bus_semantics.specs.Common.{asks_its_own, wish_fits, plan_of, IsSound, wanted_of};
+ghost use Rattle.cross_core_table.specs.Common.{plan_in, IsSeatOf, view_of};
 ghost use Rattle.cross_core_table.specs.Opened.{IsOpened};
-ghost use Rattle.cross_core_table.specs.Seats.{IsSeatOf, view_of};
 
 use crate::fault::Fault;
 use crate::readings::plan_of_description;

@@ -2,9 +2,8 @@
 
 ghost use Rattle.std.specs.Prelude.{◌≡◌, ◌+◌, ◌<◌, ◌≤◌, IfOk, length};
 ghost use Rattle.bus_semantics.specs.declared.script.Mapping.{Mapping};
-ghost use Rattle.bus_semantics.specs.Plan.{plan_of};
+ghost use Rattle.bus_semantics.specs.Common.{plan_of, IsSound};
 ghost use Rattle.task_generator.specs.Promise.{AsksAsPlanned};
-ghost use Rattle.bus_semantics.specs.Sound.{IsSound};
 ghost use Rattle.core_turn.specs.Ready.{IsReady};
 
 use crate::counting::CountingBench;

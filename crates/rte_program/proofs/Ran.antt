@@ -4,8 +4,7 @@ use Rattle.std.specs.Prelude.{◌⊎◌}
 use Rattle.bus_semantics.specs.declared.script.Line.{Line}
 use Rattle.bus_semantics.specs.declared.script.Mapping.{Mapping}
 use Rattle.bus_semantics.specs.declared.version.Version.TheVariants.{Two}
-use Rattle.bus_semantics.specs.Plan.{Plan, plan_of}
-use Rattle.bus_semantics.specs.Run.{Session, IsLegalRun}
+use Rattle.bus_semantics.specs.Common.{Plan, plan_of, Session, IsLegalRun}
 use Rattle.trace_reading.specs.Verdicts.{IsLegalTrace}
 use Rattle.core_runtime.specs.Nodes.{NodeState}
 use Rattle.description_stages.specs.declared.planning.PlannedDescription.{PlannedDescription}

@@ -8,16 +8,12 @@ use Rattle.bus_semantics.specs.declared.script.Line.{Line}
 use Rattle.bus_semantics.specs.declared.script.Mapping.{Mapping}
 use Rattle.bus_semantics.specs.declared.version.Version.{Version}
 use Rattle.bus_semantics.specs.declared.version.Version.TheVariants.{Two}
-use Rattle.bus_semantics.specs.Plan.{Plan, plan_of}
-use Rattle.bus_semantics.specs.Run.{IsRunOf, Session}
-use Rattle.bus_semantics.specs.Sound.{IsSound}
-use Rattle.bus_semantics.specs.Spelling.{spelling_of}
+use Rattle.bus_semantics.specs.Common.{Plan, plan_of, IsRunOf, Session, IsSound, spelling_of}
 use Rattle.description_places.specs.Rules.{Reads}
 use Rattle.description_stages.specs.declared.planning.PlannedDescription.{PlannedDescription}
 use Rattle.description_stages.specs.Plans.{IsPlanRefusalOf}
 use Rattle.line_fields.specs.Texts.{lines_of}
-use Rattle.script_reading.specs.Meaning.{saying}
-use Rattle.script_reading.specs.Reading.{IsScript, first_bad}
+use Rattle.script_reading.specs.Common.{saying, IsScript, first_bad}
 use Rattle.soak_maker.specs.Script.{soak_lines}
 use Rattle.soak_maker.specs.Soak.{soak_value}
 use Rattle.trace_counts.specs.Sessions.{numbers_of}

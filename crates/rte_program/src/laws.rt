@@ -3,8 +3,7 @@
 ghost use Rattle.std.specs.Prelude.{◌≡◌, ℕ, List};
 ghost use Rattle.bus_semantics.specs.declared.script.Line.{Line};
 ghost use Rattle.bus_semantics.specs.declared.script.Mapping.{Mapping};
-ghost use Rattle.bus_semantics.specs.Plan.{Plan};
-ghost use Rattle.bus_semantics.specs.Sound.{IsSound};
+ghost use Rattle.bus_semantics.specs.Common.{Plan, IsSound};
 ghost use Rattle.trace_reading.specs.declared.checked.Checked.{Checked};
 ghost use Rattle.trace_reading.specs.declared.checked.Checked.TheVariants.{Legal};
 ghost use Rattle.trace_reading.specs.Verdicts.{IsLegalTrace, IsVerdict};

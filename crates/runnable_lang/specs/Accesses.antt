@@ -4,7 +4,8 @@ use Rattle.std.specs.List.{list_any}
 use Rattle.runnable_lang.specs.declared.program.AccessKind.{AccessKind}
 use Rattle.runnable_lang.specs.declared.program.AccessKind.TheVariants as kind
 use Rattle.runnable_lang.specs.declared.program.AccessSig.{AccessSig}
-use Rattle.runnable_lang.specs.Trees.{StmtTree, sets, chooses, repeats, in_area, writes, reads, invalidates, asks_updated, sends, receives, writes_late, reads_early, writes_variable, reads_variable, writes_variable_late, reads_variable_early, calls, calls_and_goes_on, takes_result, switches, asks_mode}
+use Rattle.runnable_lang.specs.Trees.{StmtTree, sets, chooses, repeats, in_area, writes, reads, invalidates, asks_updated, sends, receives, writes_late, reads_early, writes_variable}
+use Rattle.runnable_lang.specs.Trees.{reads_variable, writes_variable_late, reads_variable_early, calls, calls_and_goes_on, takes_result, switches, asks_mode}
 
 -- the kinds in their order
 abbrev pub kind_number : AccessKind → ℕ

@@ -1,6 +1,8 @@
 -- What a program costs: a bound on the steps and bus calls of one activation.
 use Rattle.std.specs.Prelude.{ℕ, ◌+◌, ◌*◌, List, [], ◌∷◌}
-use Rattle.runnable_lang.specs.Trees.{ExprTree, constant, variable, combined, StmtTree, sets, chooses, repeats, in_area, writes, reads, invalidates, asks_updated, sends, receives, writes_late, reads_early, writes_variable, reads_variable, writes_variable_late, reads_variable_early, calls, calls_and_goes_on, takes_result, switches, asks_mode, BodyTree, done, next}
+use Rattle.runnable_lang.specs.Trees.{ExprTree, constant, variable, combined, StmtTree, sets, chooses, repeats, in_area, writes, reads, invalidates, asks_updated, sends, receives}
+use Rattle.runnable_lang.specs.Trees.{writes_late, reads_early, writes_variable, reads_variable, writes_variable_late, reads_variable_early, calls, calls_and_goes_on, takes_result, switches}
+use Rattle.runnable_lang.specs.Trees.{asks_mode, BodyTree, done, next}
 
 -- an expression: the number of its operators
 abbrev pub expr_cost : ExprTree → ℕ

@@ -1,15 +1,12 @@
 -- When two actors are the same, and two deeds: what they are and name is the same.
 use Rattle.std.specs.Prelude.{ℕ, Bool, true, false, ◌&&◌, ◌==◌, Option, Some, None}
 use Rattle.std.specs.Bool.{beq}
-use Rattle.rte_value.specs.declared.kinds.Step.{Step}
+use Rattle.bus_semantics.specs.Common.{Step, Value, same_key, same_number, same_words, words_of, Wanted, to_write, to_send, to_ask, to_return, to_publish, to_publish_all}
 use Rattle.rte_value.specs.declared.kinds.Step.TheVariants as step
-use Rattle.rte_value.specs.declared.value.Value.{Value}
-use Rattle.rte_value.specs.Values.{same_key, same_number, same_words, words_of}
 use Rattle.bus_semantics.specs.declared.entries.Actor.{Actor}
 use Rattle.bus_semantics.specs.declared.entries.Actor.TheVariants.{Env, Machine, Act}
 use Rattle.bus_semantics.specs.declared.entries.Deed.{Deed}
 use Rattle.bus_semantics.specs.declared.entries.Deed.TheVariants as deed
-use Rattle.bus_semantics.specs.Wanted.{Wanted, to_write, to_send, to_ask, to_return, to_publish, to_publish_all}
 
 abbrev pub same_maker : Actor → Actor → Bool
 same_maker Env Env = true

@@ -1,33 +1,22 @@
 -- In a sound plan, whatever the environment may ask for has a spelling that is read as just that.
-use Rattle.std.proofs.Common.{◌≡◌, ◌↔◌, ℕ, ◌<◌, ◌≤◌, Bool, true, false, not, ◌&&◌, ◌||◌, cond, ◌==◌, List, [], ◌∷◌, ◌++◌, length, map, get_or, is_none, nat_lt, codes, ℤ, Option, Some, None, inl, inr, refl, sym, ap, ◌∙◌, subst, arith}
-use Rattle.std.specs.List.{list_all, slice_get}
-use Rattle.std.specs.Option.{option_map_or}
-use Rattle.std.proofs.lemmas.Bool.{and_parts, and_from, ltb-true, or_left, or_right}
-use Rattle.std.proofs.lemmas.List.{append-nil}
-use Rattle.std.proofs.lemmas.Option.{slice_get_cases, slice_get-get_or}
-use Rattle.rte_value.specs.Values.{same_number}
+use Rattle.std.proofs.Common.{◌≡◌, ◌↔◌, ℕ, ◌<◌, ◌≤◌, Bool, true, false, not, ◌&&◌, ◌||◌, cond, ◌==◌, List, [], ◌∷◌, ◌++◌, length, map, get_or, is_none, nat_lt, codes, ℤ, Option, Some, None}
+use Rattle.std.proofs.Common.{inl, inr, refl, sym, ap, ◌∙◌, subst, arith}
+use Rattle.bus_semantics.specs.Common.{list_all, slice_get, option_map_or, and_parts, and_from, ltb-true, or_left, or_right, append-nil, slice_get-get_or, same_number, wish_fits, holds}
+use Rattle.bus_semantics.specs.Common.{is_queued, is_unqueued, Plan, caller_of, look, IsSound, is_name, named_once, names_distinct, names_fit, is_variable, Letters, elem_name, point_name}
+use Rattle.bus_semantics.specs.Common.{machine_name, mode_port_name, spaced, words_text, Wanted, to_write, to_send, to_read, to_receive, to_ask, to_take_result, to_switch, to_see_mode}
+use Rattle.std.proofs.lemmas.Option.{slice_get_cases}
 use Rattle.bus_semantics.specs.declared.entries.Actor.TheVariants.{Env}
 use Rattle.bus_semantics.specs.declared.plan.ElemPlan.{ElemPlan}
 use Rattle.bus_semantics.specs.declared.plan.PointPlan.{PointPlan}
 use Rattle.bus_semantics.specs.declared.plan.MachinePlan.{MachinePlan}
 use Rattle.bus_semantics.specs.declared.plan.ModePortPlan.{ModePortPlan}
 use Rattle.bus_semantics.specs.declared.script.Mapping.{Mapping}
-use Rattle.bus_semantics.specs.Fitting.{wish_fits}
-use Rattle.bus_semantics.specs.Owners.{holds, is_queued, is_unqueued}
-use Rattle.bus_semantics.specs.Plan.{Plan, caller_of, look}
-use Rattle.bus_semantics.specs.Sound.{IsSound}
 use Rattle.bus_semantics.specs.SoundNames as sound
-use Rattle.bus_semantics.specs.SoundNames.{is_name, named_once, names_distinct, names_fit}
-use Rattle.bus_semantics.specs.SoundPlan.{is_variable}
-use Rattle.bus_semantics.specs.Spelling.{Letters, elem_name, point_name, machine_name, mode_port_name, spaced, words_text}
-use Rattle.bus_semantics.specs.Wanted.{Wanted, to_write, to_send, to_read, to_receive, to_ask, to_take_result, to_switch, to_see_mode}
-use Rattle.script_reading.specs.declared.forms.Form.{Form}
-use Rattle.script_reading.specs.declared.forms.Form.TheVariants.{Write, Send, Read, Receive, Ask, TakeResult, Switch, SeeMode}
-use Rattle.script_reading.specs.Forms.{to_wait, to_run, to_call, behind, phrase_text, third_fits}
-use Rattle.script_reading.specs.Meaning.{Asked, ticks, a_run, a_call, Saying, asks, is_bad, not_of_type, call_at, call_with, named_call, saying, switch_call}
+use Rattle.script_reading.specs.Common.{Form, Write, Send, Read, Receive, Ask, TakeResult, Switch, SeeMode, to_wait, to_run, to_call, behind, phrase_text, third_fits, Asked, ticks, a_run}
+use Rattle.script_reading.specs.Common.{a_call, Saying, asks, is_bad, not_of_type, call_at, call_with, named_call, saying, switch_call, elem_offered, is_for, machine_offered, mode_in}
+use Rattle.script_reading.specs.Common.{mode_of, mode_port_offered, named_if, offered, point_offered, takes, AsksOfFirst, IsFirst, IsFirstMode, may_ask, may_call, mode_name, text_of}
 use Rattle.line_fields.specs.Numbers.{are_held, is_value, words_in}
-use Rattle.script_reading.specs.Offers.{elem_offered, is_for, machine_offered, mode_in, mode_of, mode_port_offered, named_if, offered, point_offered, takes}
-use Rattle.script_reading.specs.Sentences.{IsSpelling, AsksOfFirst, IsFirst, IsFirstMode, IsOfFirst, may_ask, may_call, mode_name, text_of}
+use Rattle.script_reading.specs.Sentences.{IsSpelling, IsOfFirst}
 use Rattle.line_fields.specs.Texts.{is_pair_name, parts}
 use Rattle.line_fields.proofs.Distinct.{all_at}
 use Rattle.script_reading.proofs.Apart.{AreDistinct, are_distinct, elem_apart, machine_apart, mode_port_apart, modes_apart, point_apart}

@@ -1,17 +1,11 @@
 -- In a sound plan no two things of the environment that one form is for have one name, and no two modes of a machine.
 use Rattle.std.proofs.Common.{◌≡◌, ℕ, ◌<◌, true, ◌&&◌, List, map, length, is_none, unwrap_or, Option, Some, None, refl, sym, ap, ◌∙◌}
-use Rattle.std.specs.List.{list_all, slice_get}
-use Rattle.std.proofs.lemmas.Bool.{and_parts}
+use Rattle.bus_semantics.specs.Common.{list_all, slice_get, and_parts, Plan, look, Named, caller_rank, named_once, names_distinct, rank, Letters}
 use Rattle.bus_semantics.specs.declared.plan.ElemPlan.{ElemPlan}
 use Rattle.bus_semantics.specs.declared.plan.PointPlan.{PointPlan}
 use Rattle.bus_semantics.specs.declared.plan.MachinePlan.{MachinePlan}
 use Rattle.bus_semantics.specs.declared.plan.ModePortPlan.{ModePortPlan}
-use Rattle.bus_semantics.specs.Plan.{Plan, look}
-use Rattle.bus_semantics.specs.SoundNames.{Named, caller_rank, named_once, names_distinct}
-use Rattle.bus_semantics.specs.SoundPlan.{rank}
-use Rattle.bus_semantics.specs.Spelling.{Letters}
-use Rattle.script_reading.specs.declared.forms.Form.{Form}
-use Rattle.script_reading.specs.Offers.{elem_offered, is_for, machine_offered, mode_port_offered, point_offered}
+use Rattle.script_reading.specs.Common.{Form, elem_offered, is_for, machine_offered, mode_port_offered, point_offered}
 use Rattle.line_fields.proofs.Distinct.{labels_apart}
 use Rattle.script_reading.proofs.Asking.{if_named}
 use Rattle.script_reading.proofs.Naming.{looked_up}

@@ -1,20 +1,12 @@
 -- What a line asks for is what it spells, and the environment may ask for it.
 use Rattle.std.proofs.Common.{◌≡◌, ℕ, ◌<◌, Bool, true, false, not, ◌&&◌, cond, ◌==◌, List, [], ◌∷◌, ◌++◌, length, codes, ℤ, is_none, nat_lt, Option, Some, None, refl, sym, ap, ◌∙◌, subst}
-use Rattle.std.specs.List.{list_all, slice_get}
-use Rattle.std.specs.Option.{option_map_or}
-use Rattle.std.proofs.lemmas.Bool.{and_parts, and_from, lt-ltb}
-use Rattle.std.proofs.lemmas.List.{append-nil}
-use Rattle.std.proofs.lemmas.Option.{slice_get_within}
-use Rattle.rte_value.specs.Values.{same_number}
+use Rattle.bus_semantics.specs.Common.{list_all, slice_get, option_map_or, and_parts, and_from, lt-ltb, append-nil, slice_get_within, same_number, holds, is_queued, is_unqueued, own_point}
+use Rattle.bus_semantics.specs.Common.{Plan, look, is_within, Letters, elem_name, point_name, machine_name, mode_port_name, spaced, words_text, to_write, to_send, to_read, to_receive}
+use Rattle.bus_semantics.specs.Common.{to_ask, to_take_result, to_switch, to_see_mode}
 use Rattle.bus_semantics.specs.declared.plan.ElemPlan.{ElemPlan}
 use Rattle.bus_semantics.specs.declared.plan.PointPlan.{PointPlan}
 use Rattle.bus_semantics.specs.declared.plan.MachinePlan.{MachinePlan}
 use Rattle.bus_semantics.specs.declared.plan.ModePortPlan.{ModePortPlan}
-use Rattle.bus_semantics.specs.Owners.{holds, is_queued, is_unqueued, own_point}
-use Rattle.bus_semantics.specs.Plan.{Plan, look}
-use Rattle.bus_semantics.specs.SoundElements.{is_within}
-use Rattle.bus_semantics.specs.Spelling.{Letters, elem_name, point_name, machine_name, mode_port_name, spaced, words_text}
-use Rattle.bus_semantics.specs.Wanted.{to_write, to_send, to_read, to_receive, to_ask, to_take_result, to_switch, to_see_mode}
 use Rattle.script_reading.specs.declared.forms.Form.{Form}
 use Rattle.script_reading.specs.declared.forms.Form.TheVariants.{Write, Send, Read, Receive, Ask, TakeResult, Switch, SeeMode}
 use Rattle.script_reading.specs.Forms.{Phrase, to_wait, to_run, to_call, behind, is_phrase, phrase_in, phrase_text, third_fits}

@@ -1,21 +1,13 @@
 -- What a line of a script asks for is what the environment may carry out.
 use Rattle.std.proofs.Common.{◌≡◌, suc, true, List, [], ◌∷◌, map, refl, sym, subst, arith}
-use Rattle.std.specs.List.{All}
-use Rattle.std.proofs.lemmas.Bool.{and_parts}
-use Rattle.std.proofs.lemmas.List.Elements.{All-append, All-cons, All-nil}
+use Rattle.bus_semantics.specs.Common.{All, and_parts, All-nil, wish_fits, Plan, Letters, Wanted, to_tick, to_write, to_send, to_ask}
+use Rattle.std.proofs.lemmas.List.Elements.{All-append, All-cons}
 use Rattle.bus_semantics.specs.declared.entries.Actor.TheVariants.{Env}
 use Rattle.bus_semantics.specs.declared.script.Line.{Line}
 use Rattle.bus_semantics.specs.declared.script.Line.TheVariants as line
-use Rattle.bus_semantics.specs.Fitting.{wish_fits}
-use Rattle.bus_semantics.specs.Plan.{Plan}
-use Rattle.bus_semantics.specs.Spelling.{Letters}
-use Rattle.bus_semantics.specs.Wanted.{Wanted, to_tick, to_write, to_send, to_ask}
-use Rattle.script_reading.specs.declared.forms.Form.TheVariants.{Write, Send, Ask}
+use Rattle.script_reading.specs.Common.{Write, Send, Ask, Asked, ticks, a_run, a_call, asked_of, Saying, nothing, asks, is_bad, saying, takes, IsScript, asked_by, asked_in, may_ask}
+use Rattle.script_reading.specs.Common.{may_call}
 use Rattle.script_reading.specs.Carried.{IsCarriable}
-use Rattle.script_reading.specs.Meaning.{Asked, ticks, a_run, a_call, asked_of, Saying, nothing, asks, is_bad, saying}
-use Rattle.script_reading.specs.Offers.{takes}
-use Rattle.script_reading.specs.Reading.{IsScript, asked_by, asked_in}
-use Rattle.script_reading.specs.Sentences.{may_ask, may_call}
 use Rattle.line_fields.specs.Texts.{lines_of}
 use Rattle.script_reading.proofs.Asking.{saying_asks}
 

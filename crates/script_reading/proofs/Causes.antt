@@ -1,21 +1,16 @@
 -- A line is bad exactly for the causes that stand in `Sentences`.
 use Rattle.std.proofs.Common.{◌≡◌, ℕ, ◌+◌, Bool, true, false, cond, ◌==◌, List, [], ◌∷◌, ◌++◌, length, Option, Some, None, inl, inr, refl, sym, ap, ◌∙◌, length-append}
-use Rattle.std.specs.List.{slice_get}
-use Rattle.std.proofs.lemmas.Bool.{and_parts}
+use Rattle.bus_semantics.specs.Common.{slice_get, and_parts, Plan, Letters, to_write, to_send, to_ask}
 use Rattle.bus_semantics.specs.declared.plan.MachinePlan.{MachinePlan}
-use Rattle.bus_semantics.specs.Plan.{Plan}
-use Rattle.bus_semantics.specs.Spelling.{Letters}
-use Rattle.bus_semantics.specs.Wanted.{to_write, to_send, to_ask}
-use Rattle.script_reading.specs.declared.forms.Form.{Form}
-use Rattle.script_reading.specs.declared.forms.Form.TheVariants.{Write, Send, Read, Receive, Ask, TakeResult, Switch, SeeMode}
+use Rattle.script_reading.specs.Common.{Form, Write, Send, Read, Receive, Ask, TakeResult, Switch, SeeMode, Phrase, to_wait, to_run, to_call, behind, phrase_in, phrase_text, third_fits}
+use Rattle.script_reading.specs.Common.{are_too_many, runs_in, runs_said, ticks_in, ticks_said, Asked, a_call, Saying, nothing, asks, is_bad, no_such, not_of_type, call_at, call_with}
+use Rattle.script_reading.specs.Common.{meaning, meaning_in, named_call, saying, switch_call, mode_in, mode_of, number_of, offered, takes, cause_of, least_cause, passes, HasForm, IsNamed}
+use Rattle.script_reading.specs.Common.{pass_limit}
 use Rattle.script_reading.specs.declared.forms.Follows.TheVariants as follow
-use Rattle.script_reading.specs.Forms.{Phrase, to_wait, to_run, to_call, behind, phrase_in, phrase_text, third_fits}
-use Rattle.script_reading.specs.Limits.{are_too_many, runs_in, runs_said, ticks_in, ticks_said}
-use Rattle.script_reading.specs.Meaning.{Asked, a_call, Saying, nothing, asks, is_bad, no_form, no_such, not_of_type, call_at, call_with, meaning, meaning_in, named_call, saying, switch_call}
+use Rattle.script_reading.specs.Meaning.{no_form}
 use Rattle.line_fields.specs.Numbers.{words_in}
-use Rattle.script_reading.specs.Offers.{mode_in, mode_of, number_of, offered, takes}
-use Rattle.script_reading.specs.Reading.{cause_of, least_cause, passes, too_many}
-use Rattle.script_reading.specs.Sentences.{GivesNoValue, HasForm, HasNoForm, IsBadItself, IsCauseOf, IsModeOf, IsNamed, NamesNoMode, NamesNothing, pass_limit}
+use Rattle.script_reading.specs.Reading.{too_many}
+use Rattle.script_reading.specs.Sentences.{GivesNoValue, HasNoForm, IsBadItself, IsCauseOf, IsModeOf, NamesNoMode, NamesNothing}
 use Rattle.script_reading.proofs.Asking.{at_place, is_machine}
 use Rattle.script_reading.proofs.Naming.{is_named, mode_found, named_is, named_nothing, no_mode_found, nothing_named}
 use Rattle.script_reading.proofs.Phrasing.{only_phrase, phrase_back, phrase_found}

@@ -1,15 +1,8 @@
 -- How many things are numbered; one more thing, before those that an index has, and one more mode, behind those that were looked at.
 use Rattle.std.proofs.Common.{◌≡◌, ℕ, suc, ◌+◌, ◌-◌, ◌<◌, ◌^◌, false, cond, List, bytes_eq, length, get_or, Some, Bor, refl, sym, ap, ◌∙◌, arith}
-use Rattle.std.specs.List.{slice_get}
-use Rattle.std.proofs.lemmas.Option.{slice_get_read}
+use Rattle.bus_semantics.specs.Common.{slice_get, slice_get_read, Plan, Letters}
 use Rattle.indexmap.specs.IndexMap.{IndexMap, get_by}
-use Rattle.bus_semantics.specs.Plan.{Plan}
-use Rattle.bus_semantics.specs.Spelling.{Letters}
-use Rattle.script_reading.specs.declared.forms.Form.{Form}
-use Rattle.script_reading.specs.declared.forms.Form.TheVariants.{Write, Send, Read, Receive, Ask, TakeResult, Switch, SeeMode}
-use Rattle.script_reading.specs.Offers.{first_from, goes_by, how_many, offered}
-use Rattle.script_reading.specs.Index.{IsNoted}
-use Rattle.script_reading.specs.Numbers.{IsNumbered}
+use Rattle.script_reading.specs.Common.{Form, Write, Send, Read, Receive, Ask, TakeResult, Switch, SeeMode, first_from, goes_by, how_many, offered, IsNoted, IsNumbered}
 
 pub few_numbered : (f : Form) (p : Plan) → IsNumbered p → how_many f p < 2 ^ 32
 few_numbered Write p few = few.elements

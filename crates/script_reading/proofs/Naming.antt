@@ -1,16 +1,8 @@
 -- What a name finds: the first thing that goes by it.
 use Rattle.std.proofs.Common.{◌≡◌, ℕ, zero, suc, ◌+◌, ◌<◌, ◌≤◌, Bool, true, false, cond, List, length, Option, Some, None, inl, inr, refl, ap, ◌∙◌, subst, arith}
-use Rattle.std.specs.List.{slice_get}
-use Rattle.std.specs.Option.{option_map_or}
-use Rattle.std.proofs.lemmas.Bool.{cases_lt}
-use Rattle.std.proofs.lemmas.Option.{slice_get_within}
-use Rattle.std.proofs.lemmas.Slice.Eq.{bytes_eq-Decides}
-use Rattle.bus_semantics.specs.Plan.{Plan, look}
-use Rattle.bus_semantics.specs.Spelling.{Letters}
-use Rattle.script_reading.specs.declared.forms.Form.{Form}
-use Rattle.script_reading.specs.declared.forms.Form.TheVariants.{Write, Send, Read, Receive, Ask, TakeResult, Switch, SeeMode}
-use Rattle.script_reading.specs.Offers.{elem_offered, first_from, goes_by, how_many, machine_offered, mode_in, mode_port_offered, number_of, offered, point_offered}
-use Rattle.script_reading.specs.Sentences.{IsNamed}
+use Rattle.bus_semantics.specs.Common.{slice_get, option_map_or, cases_lt, slice_get_within, bytes_eq-Decides, Plan, look, Letters}
+use Rattle.script_reading.specs.Common.{Form, Write, Send, Read, Receive, Ask, TakeResult, Switch, SeeMode, elem_offered, first_from, goes_by, how_many, machine_offered, mode_in}
+use Rattle.script_reading.specs.Common.{mode_port_offered, number_of, offered, point_offered, IsNamed}
 
 -- ---- the first number of which something holds
 

@@ -1,14 +1,8 @@
 -- 32 bits number what a sound plan has.
 use Rattle.std.proofs.Common.{◌≡◌, ◌≤◌, ◌+◌, List, [], ◌∷◌, length, true, nat_le, ◌==◌, ◌&&◌, refl, arith}
-use Rattle.std.specs.List.{list_all}
-use Rattle.std.proofs.lemmas.Bool.{and_from, and_parts, leb-true, le-leb}
+use Rattle.bus_semantics.specs.Common.{list_all, and_from, and_parts, leb-true, le-leb, clock, Plan, IsSound, machine_sound, is_in, things}
 use Rattle.bus_semantics.specs.declared.plan.MachinePlan.{MachinePlan}
 use Rattle.bus_semantics.specs.declared.script.Mapping.{Mapping}
-use Rattle.bus_semantics.specs.Objects.{clock}
-use Rattle.bus_semantics.specs.Plan.{Plan}
-use Rattle.bus_semantics.specs.Sound.{IsSound}
-use Rattle.bus_semantics.specs.SoundElements.{machine_sound}
-use Rattle.bus_semantics.specs.SoundPlan.{is_in, things}
 use Rattle.script_reading.specs.Index.{has_few_modes}
 use Rattle.script_reading.specs.Numbers.{HasFewNumbers, IsNumbered}
 

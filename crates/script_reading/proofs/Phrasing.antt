@@ -1,18 +1,14 @@
 -- A text has one of the forms exactly where it is the text of a phrase, and that phrase is the only one.
-use Rattle.std.proofs.Common.{◌≡◌, ℕ, ◌^◌, ◌<◌, ◌≤◌, Bool, true, false, ◌&&◌, cond, List, [], ◌∷◌, ◌++◌, bytes_eq, codes, decimal, Option, Some, None, refl, sym, ap, ◌∙◌, subst, append_assoc, arith, nat_le}
-use Rattle.std.proofs.lemmas.Bool.{and_parts, and_from, leb-true}
-use Rattle.std.proofs.lemmas.List.{append-nil}
-use Rattle.std.proofs.lemmas.Slice.Eq.{bytes_eq-Decides}
-use Rattle.bus_semantics.specs.SoundPlan.{is_in}
-use Rattle.bus_semantics.specs.Spelling.{Letters, spaced}
-use Rattle.script_reading.specs.declared.forms.Form.{Form}
-use Rattle.script_reading.specs.declared.forms.Form.TheVariants.{Write, Send, Read, Receive, Ask, TakeResult, Switch, SeeMode}
+use Rattle.std.proofs.Common.{◌≡◌, ℕ, ◌^◌, ◌<◌, ◌≤◌, Bool, true, false, ◌&&◌, cond, List, [], ◌∷◌, ◌++◌, bytes_eq, codes, decimal, Option, Some, None, refl, sym, ap, ◌∙◌, subst}
+use Rattle.std.proofs.Common.{append_assoc, arith, nat_le}
+use Rattle.bus_semantics.specs.Common.{and_parts, and_from, leb-true, append-nil, bytes_eq-Decides, is_in, Letters, spaced}
+use Rattle.script_reading.specs.Common.{Form, Write, Send, Read, Receive, Ask, TakeResult, Switch, SeeMode, Phrase, to_wait, to_run, to_call, behind, is_phrase, phrase_in, phrase_text}
+use Rattle.script_reading.specs.Common.{third_fits, HasForm}
 use Rattle.script_reading.specs.declared.forms.Follows.{Follows}
 use Rattle.script_reading.specs.declared.forms.Follows.TheVariants as follow
-use Rattle.script_reading.specs.Forms.{Phrase, to_wait, to_run, to_call, behind, by_fields, call_phrase, form_of, is_phrase, keyword, phrase_in, phrase_text, third_fits, third_text, tick_phrase}
+use Rattle.script_reading.specs.Forms.{by_fields, call_phrase, form_of, keyword, third_text, tick_phrase}
 use Rattle.line_fields.specs.Numbers.{is_number, number_in}
 use Rattle.line_fields.specs.Texts.{is_pair_name, parts}
-use Rattle.script_reading.specs.Sentences.{HasForm}
 use Rattle.line_fields.proofs.Spelt.{decimal_back, decimal_is_number, number_spelt}
 use Rattle.line_fields.proofs.Joining.{joined, joined-parts, lacks, parts-join, parts-one}
 use Rattle.line_fields.proofs.Spaces.{name_lacks, number_lacks, pair_lacks, value_lacks}

@@ -1,16 +1,11 @@
 -- Scripts that receive nothing from reserved elements are those scripts whose lines ask for no such thing.
 use Rattle.std.proofs.Common.{◌≡◌, ◌↔◌, ℕ, ◌+◌, Bool, true, false, not, ◌&&◌, cond, List, [], ◌∷◌, ◌++◌, length, map, Option, Some, None, refl, sym, ap, ◌∙◌}
-use Rattle.std.specs.List.{list_all}
-use Rattle.std.proofs.lemmas.Bool.{and_from, and_parts, not-true}
-use Rattle.std.proofs.lemmas.List.Folds.{list_all-append}
+use Rattle.bus_semantics.specs.Common.{list_all, and_from, and_parts, not-true, list_all-append, Plan, Letters}
 use Rattle.bus_semantics.specs.declared.script.Line.{Line}
-use Rattle.bus_semantics.specs.Plan.{Plan}
-use Rattle.bus_semantics.specs.Spelling.{Letters}
 use Rattle.line_fields.specs.Texts.{lines_of}
-use Rattle.script_reading.specs.Limits.{are_too_many, runs_in, runs_said, ticks_in, ticks_said}
-use Rattle.script_reading.specs.Meaning.{Asked, ticks, a_run, a_call, Saying, nothing, asks, is_bad, no_such, asked_of, saying}
-use Rattle.script_reading.specs.Reading.{IsScript, IsScriptBy, asked_by, asked_in, bad_or, cause_of, first_bad, least_cause, passes}
-use Rattle.script_reading.specs.Reserved.{around, is_reserved, keeps_off, saying_around, takes_reserved}
+use Rattle.script_reading.specs.Common.{are_too_many, runs_in, runs_said, ticks_in, ticks_said, Asked, ticks, a_run, a_call, Saying, nothing, asks, is_bad, no_such, asked_of, saying}
+use Rattle.script_reading.specs.Common.{IsScript, IsScriptBy, asked_by, asked_in, bad_or, cause_of, first_bad, least_cause, passes, saying_around}
+use Rattle.script_reading.specs.Reserved.{around, is_reserved, keeps_off, takes_reserved}
 use Rattle.script_reading.proofs.Scripts.{none_or}
 
 -- ---- limits are the same

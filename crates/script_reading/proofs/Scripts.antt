@@ -1,23 +1,16 @@
 -- In a sound plan a script is the spellings of its lines.
-use Rattle.std.proofs.Common.{◌≡◌, ℕ, ◌+◌, ◌≤◌, Bool, true, false, not, ◌||◌, cond, ◌==◌, List, [], ◌∷◌, ◌++◌, length, map, nat_lt, Option, Some, None, refl, sym, ap, ◌∙◌, subst, append_assoc, length-append, arith}
-use Rattle.std.specs.List.{list_all}
-use Rattle.std.proofs.lemmas.Bool.{and_parts, and_from, le-ltb, ltb-false, or_from, or_parts}
-use Rattle.std.proofs.lemmas.List.{append-nil}
+use Rattle.std.proofs.Common.{◌≡◌, ℕ, ◌+◌, ◌≤◌, Bool, true, false, not, ◌||◌, cond, ◌==◌, List, [], ◌∷◌, ◌++◌, length, map, nat_lt, Option, Some, None, refl, sym, ap, ◌∙◌, subst}
+use Rattle.std.proofs.Common.{append_assoc, length-append, arith}
+use Rattle.bus_semantics.specs.Common.{list_all, and_parts, and_from, ltb-false, or_from, or_parts, append-nil, Plan, IsSound, Letters}
+use Rattle.std.proofs.lemmas.Bool.{le-ltb}
 use Rattle.bus_semantics.specs.declared.script.Line.{Line}
 use Rattle.bus_semantics.specs.declared.script.Mapping.{Mapping}
-use Rattle.bus_semantics.specs.Plan.{Plan}
-use Rattle.bus_semantics.specs.Sound.{IsSound}
-use Rattle.bus_semantics.specs.Spelling.{Letters}
-use Rattle.script_reading.specs.declared.forms.Form.{Form}
-use Rattle.script_reading.specs.declared.forms.Form.TheVariants.{Write, Send, Read, Receive, Ask, TakeResult, Switch, SeeMode}
-use Rattle.script_reading.specs.Forms.{Phrase, to_wait, to_run, to_call, behind, phrase_in}
-use Rattle.script_reading.specs.Limits.{runs_in, ticks_in}
-use Rattle.script_reading.specs.Meaning.{Asked, Saying, nothing, asks, is_bad, not_of_type, asked_of, call_at, meaning_in, named_call, saying, switch_call}
+use Rattle.script_reading.specs.Common.{Form, Write, Send, Read, Receive, Ask, TakeResult, Switch, SeeMode, Phrase, to_wait, to_run, to_call, behind, phrase_in, runs_in, ticks_in, Asked}
+use Rattle.script_reading.specs.Common.{Saying, nothing, asks, is_bad, not_of_type, asked_of, call_at, meaning_in, named_call, saying, switch_call, mode_of, number_of, takes, IsScript}
+use Rattle.script_reading.specs.Common.{asked_by, asked_in, bad_or, cause_of, first_bad, least_cause, passes, may_ask, pass_limit, text_of}
 use Rattle.line_fields.specs.Numbers.{words_in}
-use Rattle.script_reading.specs.Offers.{mode_of, number_of, takes}
-use Rattle.script_reading.specs.Reading.{IsScript, asked_by, asked_in, bad_or, cause_of, first_bad, least_cause, passes}
 use Rattle.script_reading.specs.Scripts.{SpellsScript, spoken}
-use Rattle.script_reading.specs.Sentences.{is_blank, may_ask, pass_limit, text_of}
+use Rattle.script_reading.specs.Sentences.{is_blank}
 use Rattle.line_fields.specs.Texts.{lines_of}
 use Rattle.script_reading.proofs.Answered.{asks_said}
 use Rattle.script_reading.proofs.Asking.{saying_asks}

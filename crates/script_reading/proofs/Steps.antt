@@ -1,14 +1,11 @@
 -- How far reading has come, and what each step of it shows.
 use Rattle.std.proofs.Common.{◌≡◌, ℕ, ◌+◌, List, [], ◌∷◌, ◌++◌, length, map, Some, None, refl, sym, ap, ◌∙◌, subst, append_assoc, length-append, arith}
-use Rattle.std.proofs.lemmas.List.{append-nil}
+use Rattle.bus_semantics.specs.Common.{append-nil, Letters}
 use Rattle.bus_semantics.specs.declared.script.Line.{Line}
-use Rattle.bus_semantics.specs.Spelling.{Letters}
 use Rattle.script_reading.specs.declared.counts.Counts.{Counts}
 use Rattle.line_fields.specs.Texts.{lines_of}
-use Rattle.script_reading.specs.Meaning.{Saying, asked_of}
-use Rattle.script_reading.specs.Limits.{ticks_said, runs_said, ticks_in, runs_in}
+use Rattle.script_reading.specs.Common.{Saying, asked_of, ticks_said, runs_said, ticks_in, runs_in, IsScriptBy, asked_by, asked_in, bad_or, cause_of, first_bad}
 use Rattle.script_reading.specs.Pieces.{AreCountedWith, cause_after}
-use Rattle.script_reading.specs.Reading.{IsScriptBy, asked_by, asked_in, bad_or, cause_of, first_bad}
 
 -- these lines were read, with these counts, and the rest was not
 pub record HasRead (say : Letters → Saying) (bytes : Letters) (lines : List Line) (c : Counts) (rest : Letters) : Type 0 where

@@ -3,9 +3,7 @@ use Rattle.std.specs.Prelude.{◌≡◌, true}
 use Rattle.bus_semantics.specs.declared.entries.Actor.TheVariants.{Env}
 use Rattle.bus_semantics.specs.declared.script.Line.{Line}
 use Rattle.bus_semantics.specs.declared.script.Line.TheVariants as line
-use Rattle.bus_semantics.specs.Fitting.{wish_fits}
-use Rattle.bus_semantics.specs.Plan.{Plan}
-use Rattle.bus_semantics.specs.Wanted.{wanted_of}
+use Rattle.bus_semantics.specs.Common.{wish_fits, Plan, wanted_of}
 
 -- a line that the environment may carry out: its call is one that the environment may make
 abbrev pub IsCarriable : Plan → Line → Type 0

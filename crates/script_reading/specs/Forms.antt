@@ -1,8 +1,6 @@
 -- The forms of a line: what may stand in it, whatever the plan has. The script is this project's own.
 use Rattle.std.specs.Prelude.{ℕ, List, [], ◌∷◌, ◌++◌, Bool, true, false, ◌&&◌, bytes_eq, codes, decimal, if◌then◌else◌, Option, Some, None}
-use Rattle.bus_semantics.specs.SoundNames.{is_name}
-use Rattle.bus_semantics.specs.SoundPlan.{is_in}
-use Rattle.bus_semantics.specs.Spelling.{Letters, spaced}
+use Rattle.bus_semantics.specs.Common.{is_name, is_in, Letters, spaced}
 use Rattle.script_reading.specs.declared.forms.Form.{Form}
 use Rattle.script_reading.specs.declared.forms.Form.TheVariants.{Write, Send, Read, Receive, Ask, TakeResult, Switch, SeeMode}
 use Rattle.script_reading.specs.declared.forms.Follows.{Follows}

@@ -1,10 +1,8 @@
 -- Things of outer ports by name.
 use Rattle.std.specs.Prelude.{◌≡◌, ℕ, length, Bool, nat_le, if◌then◌else◌, Option, Some, bytes_eq}
-use Rattle.std.specs.Borrow.{Bor}
+use Rattle.bus_semantics.specs.Common.{Bor, Plan, Letters}
 use Rattle.indexmap.specs.IndexMap.{IndexMap, get_by}
 use Rattle.bus_semantics.specs.declared.plan.MachinePlan.{MachinePlan}
-use Rattle.bus_semantics.specs.Plan.{Plan}
-use Rattle.bus_semantics.specs.Spelling.{Letters}
 use Rattle.script_reading.specs.declared.forms.Form.{Form}
 use Rattle.script_reading.specs.Offers.{goes_by, number_of}
 

@@ -10,3 +10,4 @@ pub mod Numbers
 pub mod Sentences
 pub mod Scripts
 pub mod Carried
+pub mod Common

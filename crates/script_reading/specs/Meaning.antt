@@ -2,9 +2,7 @@
 use Rattle.std.specs.Prelude.{ℕ, ℤ, List, [], ◌∷◌, ◌==◌, if◌then◌else◌, Option, Some, None}
 use Rattle.bus_semantics.specs.declared.script.Line.{Line}
 use Rattle.bus_semantics.specs.declared.script.Line.TheVariants as line
-use Rattle.bus_semantics.specs.Plan.{Plan}
-use Rattle.bus_semantics.specs.Spelling.{Letters}
-use Rattle.bus_semantics.specs.Wanted.{Wanted, to_write, to_send, to_read, to_receive, to_ask, to_take_result, to_switch, to_see_mode, wanted_of}
+use Rattle.bus_semantics.specs.Common.{Plan, Letters, Wanted, to_write, to_send, to_read, to_receive, to_ask, to_take_result, to_switch, to_see_mode, wanted_of}
 use Rattle.script_reading.specs.declared.forms.Form.{Form}
 use Rattle.script_reading.specs.declared.forms.Form.TheVariants.{Write, Send, Read, Receive, Ask, TakeResult, SeeMode}
 use Rattle.script_reading.specs.declared.forms.Follows.{Follows}

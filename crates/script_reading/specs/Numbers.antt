@@ -1,7 +1,6 @@
 -- How many things of a plan go by name.
 use Rattle.std.specs.Prelude.{◌≡◌, ◌<◌, ◌^◌, length, true}
-use Rattle.std.specs.List.{list_all}
-use Rattle.bus_semantics.specs.Plan.{Plan}
+use Rattle.bus_semantics.specs.Common.{list_all, Plan}
 use Rattle.script_reading.specs.Index.{has_few_modes}
 
 -- 32 bits number the elements and the mode elements. Of these a sound plan may have any number

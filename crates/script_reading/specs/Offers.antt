@@ -1,16 +1,11 @@
 -- What the environment has in a plan: the things of the root's outer ports, by the forms that name them (SWS_RTE: Rte_Write, Rte_Send,
 -- Rte_Read, Rte_Receive, Rte_Call, Rte_Result, Rte_Switch, Rte_Mode, made from outside).
 use Rattle.std.specs.Prelude.{ℕ, zero, suc, ℤ, List, [], ◌∷◌, length, Bool, true, false, not, ◌&&◌, ◌==◌, is_none, bytes_eq, if◌then◌else◌, Option, Some, None}
-use Rattle.std.specs.List.{list_all, slice_get}
-use Rattle.rte_value.specs.declared.kinds.Limits.{Limits}
+use Rattle.bus_semantics.specs.Common.{list_all, slice_get, Limits, is_queued, is_unqueued, Plan, look, is_within, Letters}
 use Rattle.bus_semantics.specs.declared.plan.ElemPlan.{ElemPlan}
 use Rattle.bus_semantics.specs.declared.plan.PointPlan.{PointPlan}
 use Rattle.bus_semantics.specs.declared.plan.MachinePlan.{MachinePlan}
 use Rattle.bus_semantics.specs.declared.plan.ModePortPlan.{ModePortPlan}
-use Rattle.bus_semantics.specs.Owners.{is_queued, is_unqueued}
-use Rattle.bus_semantics.specs.Plan.{Plan, look}
-use Rattle.bus_semantics.specs.SoundElements.{is_within}
-use Rattle.bus_semantics.specs.Spelling.{Letters}
 use Rattle.script_reading.specs.declared.forms.Form.{Form}
 use Rattle.script_reading.specs.declared.forms.Form.TheVariants.{Write, Send, Read, Receive, Ask, TakeResult, Switch, SeeMode}
 use Rattle.line_fields.specs.Numbers.{are_held}

@@ -1,8 +1,7 @@
 -- What a script is read as: what its lines ask for, in order, or its first bad line with its least cause. What a line says is given by a
 -- function: over a plan it is `saying`.
 use Rattle.std.specs.Prelude.{◌≡◌, ℕ, ◌+◌, List, [], ◌∷◌, ◌++◌, length, map, Bool, if◌then◌else◌, Option, Some, None}
-use Rattle.bus_semantics.specs.Plan.{Plan}
-use Rattle.bus_semantics.specs.Spelling.{Letters}
+use Rattle.bus_semantics.specs.Common.{Plan, Letters}
 use Rattle.bus_semantics.specs.declared.script.Line.{Line}
 use Rattle.script_reading.specs.declared.script_read.ScriptRead.{ScriptRead}
 use Rattle.script_reading.specs.declared.script_read.ScriptRead.TheVariants as answer

@@ -1,8 +1,6 @@
 -- Scripts that receive nothing from some elements, which are reserved: what comes there is somebody else's. Scripts are this project's own.
 use Rattle.std.specs.Prelude.{ℕ, List, Bool, false, not, get_or, if◌then◌else◌}
-use Rattle.bus_semantics.specs.Plan.{Plan}
-use Rattle.bus_semantics.specs.Spelling.{Letters}
-use Rattle.bus_semantics.specs.Wanted.{to_receive}
+use Rattle.bus_semantics.specs.Common.{Plan, Letters, to_receive}
 use Rattle.script_reading.specs.Meaning.{Asked, a_call, Saying, asks, is_bad, no_such, saying}
 
 -- of those past the end of the list none is reserved

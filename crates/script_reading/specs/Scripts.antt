@@ -1,9 +1,7 @@
 -- A script in words: the text is the spellings of its lines.
 use Rattle.std.specs.Prelude.{◌≡◌, List, filter, map, true, false, not}
-use Rattle.std.specs.List.{list_all}
+use Rattle.bus_semantics.specs.Common.{list_all, Plan, Letters}
 use Rattle.bus_semantics.specs.declared.script.Line.{Line}
-use Rattle.bus_semantics.specs.Plan.{Plan}
-use Rattle.bus_semantics.specs.Spelling.{Letters}
 use Rattle.script_reading.specs.Meaning.{asked_of, saying}
 use Rattle.script_reading.specs.Sentences.{is_blank, may_ask, pass_limit, text_of}
 use Rattle.line_fields.specs.Texts.{lines_of}

@@ -1,13 +1,9 @@
 -- What a script says, in words: how it spells what it asks for, which lines are good, and what each cause of a bad one means.
 use Rattle.std.specs.Prelude.{◌≡◌, ℕ, ◌<◌, List, [], ◌∷◌, ◌++◌, length, Bool, true, false, ◌⊎◌, ◌&&◌, ◌==◌, codes, decimal, Option, Some, None}
-use Rattle.std.specs.List.{slice_get}
+use Rattle.bus_semantics.specs.Common.{slice_get, wish_fits, Plan, look, is_in, Letters, spaced, words_text, elem_name, point_name, machine_name, mode_port_name, Wanted, to_tick, to_write}
+use Rattle.bus_semantics.specs.Common.{to_send, to_read, to_receive, to_ask, to_take_result, to_switch, to_see_mode}
 use Rattle.bus_semantics.specs.declared.plan.MachinePlan.{MachinePlan}
 use Rattle.bus_semantics.specs.declared.entries.Actor.TheVariants.{Env}
-use Rattle.bus_semantics.specs.Fitting.{wish_fits}
-use Rattle.bus_semantics.specs.Plan.{Plan, look}
-use Rattle.bus_semantics.specs.SoundPlan.{is_in}
-use Rattle.bus_semantics.specs.Spelling.{Letters, spaced, words_text, elem_name, point_name, machine_name, mode_port_name}
-use Rattle.bus_semantics.specs.Wanted.{Wanted, to_tick, to_write, to_send, to_read, to_receive, to_ask, to_take_result, to_switch, to_see_mode}
 use Rattle.script_reading.specs.declared.forms.Form.{Form}
 use Rattle.script_reading.specs.declared.forms.Form.TheVariants.{Write, Send, Read, Receive, Ask, TakeResult, Switch, SeeMode}
 use Rattle.script_reading.specs.declared.forms.Follows.TheVariants as follow

@@ -1,8 +1,7 @@
 //! A plan with what its environment has, by name.
 
 ghost use Rattle.std.specs.Prelude.{◌≡◌, IfOk, OnOk, option_copied, true};
-ghost use Rattle.std.specs.List.{list_all};
-ghost use Rattle.bus_semantics.specs.Plan.{plan_of};
+ghost use Rattle.bus_semantics.specs.Common.{list_all, plan_of};
 ghost use Rattle.script_reading.specs.Index.{IsIndex, IsNoted, has_few_modes};
 ghost use Rattle.script_reading.specs.Numbers.{IsNumbered};
 ghost use Rattle.script_reading.specs.Offers.{mode_in, mode_of, number_of};

@@ -1,12 +1,9 @@
 //! Laws of scripts.
 
 ghost use Rattle.std.specs.Prelude.{◌≡◌, ◌↔◌, ℕ, List, All, Bool, Some, map, true, false};
-ghost use Rattle.std.specs.List.{list_all};
+ghost use Rattle.bus_semantics.specs.Common.{list_all, Plan, IsSound, Letters};
 ghost use Rattle.bus_semantics.specs.declared.script.Line.{Line};
 ghost use Rattle.bus_semantics.specs.declared.script.Mapping.{Mapping};
-ghost use Rattle.bus_semantics.specs.Plan.{Plan};
-ghost use Rattle.bus_semantics.specs.Sound.{IsSound};
-ghost use Rattle.bus_semantics.specs.Spelling.{Letters};
 ghost use Rattle.script_reading.specs.Carried.{IsCarriable};
 ghost use Rattle.script_reading.specs.Meaning.{Asked, asked_of, asks, no_such, saying};
 ghost use Rattle.script_reading.specs.Reading.{IsScript, IsScriptBy, cause_of};

@@ -1,10 +1,7 @@
 //! One line of a script.
 
 ghost use Rattle.std.specs.Prelude.{◌≡◌, IfSome, IfNone, option_copied, true, false};
-ghost use Rattle.std.specs.List.{list_all};
-ghost use Rattle.rte_value.specs.Values.{words_of};
-ghost use Rattle.bus_semantics.specs.Plan.{plan_of};
-ghost use Rattle.bus_semantics.specs.SoundElements.{is_within};
+ghost use Rattle.bus_semantics.specs.Common.{list_all, words_of, plan_of, is_within};
 ghost use Rattle.script_reading.specs.Forms.{behind, is_phrase, phrase_in, third_fits};
 ghost use Rattle.script_reading.specs.Meaning.{call_at, call_with, meaning, meaning_in, plain_call, saying, switch_call, value_call};
 ghost use Rattle.line_fields.specs.Numbers.{are_held, is_value, words_in};

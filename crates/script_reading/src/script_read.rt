@@ -2,8 +2,7 @@
 
 ghost use Rattle.std.specs.Prelude.{◌≡◌, ℕ, List, [], ◌++◌, IfSome, Some, map, OnOk};
 ghost use Rattle.bus_semantics.specs.declared.script.Mapping.{Mapping};
-ghost use Rattle.bus_semantics.specs.Plan.{plan_of};
-ghost use Rattle.bus_semantics.specs.Sound.{IsSound};
+ghost use Rattle.bus_semantics.specs.Common.{plan_of, IsSound};
 ghost use Rattle.script_reading.specs.Numbers.{HasFewNumbers};
 ghost use Rattle.script_reading.specs.Meaning.{asked_of, saying};
 ghost use Rattle.script_reading.specs.Pieces.{saying_of};

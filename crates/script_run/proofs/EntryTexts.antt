@@ -1,11 +1,9 @@
 -- The lines of entries, one after the other.
 use Rattle.std.proofs.Common.{◌≡◌, ℕ, suc, ◌+◌, ◌<◌, List, [], ◌∷◌, ◌++◌, length, take, drop, get_or, Option, refl, sym, ap, ◌∙◌, subst, append_assoc, append-nil, drop-cons}
-use Rattle.std.proofs.lemmas.List.{take_more, take-append-drop}
+use Rattle.bus_semantics.specs.Common.{take_more, take-append-drop, Plan, entry_text}
 use Rattle.rte_text.specs.Sinks.{AppendsWhereTold, AppendsPrefixWhereTold}
 use Rattle.rte_text.specs.Told.{appends_both, prefix_after, prefix_first}
 use Rattle.bus_semantics.specs.declared.entries.Stamped.{Stamped}
-use Rattle.bus_semantics.specs.Plan.{Plan}
-use Rattle.bus_semantics.specs.Spelling.{entry_text}
 use Rattle.script_run.specs.declared.writing.Writing.{Writing}
 use Rattle.script_run.specs.Texts.{behind, entries_text}
 

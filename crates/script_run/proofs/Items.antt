@@ -1,17 +1,10 @@
 -- A session and entries of runnables and machines that follow it inside a run line.
 use Rattle.std.proofs.Common.{◌≡◌, suc, ◌+◌, Bool, true, false, not, ◌&&◌, List, [], ◌∷◌, ◌++◌, length, refl, sym, ap, ◌∙◌, append_assoc, append-nil, arith}
-use Rattle.std.specs.List.{list_all}
-use Rattle.std.proofs.lemmas.Bool.{and_parts, and_from}
+use Rattle.bus_semantics.specs.Common.{list_all, and_parts, and_from, Plan, History, is_environment, IsLegal, fits, item_fits, Session, made, run_begins, run_closes, history_of, is_inside}
+use Rattle.bus_semantics.specs.Common.{is_placed, made_in_line, orders_of, entry_text, item_text}
 use Rattle.bus_semantics.specs.declared.entries.Entry.{Entry}
 use Rattle.bus_semantics.specs.declared.entries.Stamped.{Stamped}
 use Rattle.bus_semantics.specs.declared.script.Mapping.{Mapping}
-use Rattle.bus_semantics.specs.Plan.{Plan}
-use Rattle.bus_semantics.specs.History.{History, is_environment}
-use Rattle.bus_semantics.specs.Legal.{IsLegal}
-use Rattle.bus_semantics.specs.Fitting.{fits}
-use Rattle.bus_semantics.specs.Reading.{item_fits}
-use Rattle.bus_semantics.specs.Run.{Session, made, run_begins, run_closes, history_of, is_inside, is_placed, made_in_line, orders_of}
-use Rattle.bus_semantics.specs.Spelling.{entry_text, item_text}
 use Rattle.core_runtime.specs.After.{after, are_within}
 use Rattle.script_run.specs.Legal.{IsLegalFrom}
 use Rattle.script_run.specs.Sizes.{is_sized_entry, is_sized_stamped, is_sized_item}

@@ -1,13 +1,7 @@
 -- No legal run stalls.
 use Rattle.std.proofs.Common.{[], ◌∷◌, ◌++◌}
 use Rattle.bus_semantics.specs.declared.script.Mapping.{Mapping}
-use Rattle.bus_semantics.specs.Plan.{Plan}
-use Rattle.bus_semantics.specs.History.{History}
-use Rattle.bus_semantics.specs.Legal.{IsLegal}
-use Rattle.bus_semantics.specs.Quiet.{IsQuiet}
-use Rattle.bus_semantics.specs.Rest.{IsAtRest}
-use Rattle.bus_semantics.specs.Run.{Closing, idle, unsettled, Session, made, run_begins, run_closes, history_of}
-use Rattle.bus_semantics.specs.Sound.{IsSound}
+use Rattle.bus_semantics.specs.Common.{Plan, History, IsLegal, IsQuiet, IsAtRest, Closing, idle, unsettled, Session, made, run_begins, run_closes, history_of, IsSound}
 use Rattle.script_run.specs.Legal.{IsLegalFrom, HoldsFrom}
 use Rattle.script_run.specs.Quieting.{IsQuietAt, IdlesAreQuiet}
 

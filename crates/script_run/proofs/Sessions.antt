@@ -1,8 +1,10 @@
 -- One more item of a session, or entries of a round: a call, a run mark, a closing word.
-use Rattle.std.proofs.Common.{◌≡◌, ◌≢◌, ℕ, suc, ◌+◌, ◌-◌, ◌^◌, ◌<◌, ◌≤◌, ◌==◌, min, true, false, List, [], ◌∷◌, ◌++◌, length, take, drop, replicate, get_or, Option, refl, sym, ap, ◌∙◌, subst, append_assoc, append-nil, drop-cons, arith}
-use Rattle.std.specs.List.{list_all}
-use Rattle.std.proofs.lemmas.Bool.{le-leb, and_from}
-use Rattle.std.proofs.lemmas.List.{replicate-append-replicate, take_more, take-append-drop}
+use Rattle.std.proofs.Common.{◌≡◌, ◌≢◌, ℕ, suc, ◌+◌, ◌-◌, ◌^◌, ◌<◌, ◌≤◌, ◌==◌, min, true, false, List, [], ◌∷◌, ◌++◌, length, take, drop, replicate, get_or, Option, refl, sym, ap, ◌∙◌}
+use Rattle.std.proofs.Common.{subst, append_assoc, append-nil, drop-cons, arith}
+use Rattle.bus_semantics.specs.Common.{list_all, le-leb, and_from, take_more, take-append-drop, IsSound, Plan, plan_of, Wanted, wanted_by, History, is_environment, IsLegal, MayFollow}
+use Rattle.bus_semantics.specs.Common.{IsIdle, Session, made, run_begins, run_closes, idle, unsettled, history_of, Ordered, a_run, a_call, orders_of, orders_of_line, orders_of_script}
+use Rattle.bus_semantics.specs.Common.{is_placed, is_inside, made_in_line, IsLegalRun, entry_text, closing_text, header, item_text, spelling_of}
+use Rattle.std.proofs.lemmas.List.{replicate-append-replicate}
 use Rattle.rte_text.specs.declared.sink.Put.{Put}
 use Rattle.rte_text.specs.declared.sink.Put.TheVariants as putting
 use Rattle.rte_text.specs.Sinks.{AppendsWhereTold, AppendsPrefixWhereTold, ToldAfter}
@@ -13,14 +15,6 @@ use Rattle.bus_semantics.specs.declared.entries.Stamped.{Stamped}
 use Rattle.bus_semantics.specs.declared.script.Line.{Line}
 use Rattle.bus_semantics.specs.declared.script.Mapping.{Mapping}
 use Rattle.bus_semantics.specs.declared.version.Version.{Version}
-use Rattle.bus_semantics.specs.Sound.{IsSound}
-use Rattle.bus_semantics.specs.Plan.{Plan, plan_of}
-use Rattle.bus_semantics.specs.Wanted.{Wanted, wanted_by}
-use Rattle.bus_semantics.specs.History.{History, is_environment}
-use Rattle.bus_semantics.specs.Legal.{IsLegal, MayFollow}
-use Rattle.bus_semantics.specs.Rest.{IsIdle}
-use Rattle.bus_semantics.specs.Run.{Session, made, run_begins, run_closes, idle, unsettled, history_of, Ordered, a_run, a_call, orders_of, orders_of_line, orders_of_script, is_placed, is_inside, made_in_line, IsLegalRun}
-use Rattle.bus_semantics.specs.Spelling.{entry_text, closing_text, header, item_text, spelling_of}
 use Rattle.core_runtime.specs.After.{after, are_within}
 use Rattle.core_runtime.specs.Nodes.{NodeState, IsLawfulNode}
 use Rattle.script_run.specs.declared.script.ScriptRun.{ScriptRun}

@@ -1,11 +1,7 @@
 -- Legal runs that go on from a history: runs of scripts are this project's own.
 use Rattle.std.specs.Prelude.{◌≡◌, [], ◌∷◌, ◌++◌, true, nat_le}
 use Rattle.bus_semantics.specs.declared.script.Mapping.{Mapping}
-use Rattle.bus_semantics.specs.Plan.{Plan}
-use Rattle.bus_semantics.specs.History.{History}
-use Rattle.bus_semantics.specs.Legal.{MayFollow}
-use Rattle.bus_semantics.specs.Rest.{IsIdle}
-use Rattle.bus_semantics.specs.Run.{Closing, idle, unsettled, Session, made, run_begins, run_closes, history_of, is_inside, made_in_line}
+use Rattle.bus_semantics.specs.Common.{Plan, History, MayFollow, IsIdle, Closing, idle, unsettled, Session, made, run_begins, run_closes, history_of, is_inside, made_in_line}
 
 -- `idle` holds at rest if no activation runs; `unsettled` if runnables and machines made at least 100,000 entries since the mark
 abbrev pub HoldsFrom : Plan → Mapping → History → Session → Closing → Type 0

@@ -1,9 +1,6 @@
 -- What closes a run line with `idle` leaves nothing undone (SWS_RTE: activation of runnables, mode switches).
 use Rattle.std.specs.Prelude.{[], ◌∷◌, ◌++◌}
-use Rattle.bus_semantics.specs.Plan.{Plan}
-use Rattle.bus_semantics.specs.History.{History}
-use Rattle.bus_semantics.specs.Quiet.{IsQuiet}
-use Rattle.bus_semantics.specs.Run.{Closing, idle, unsettled, Session, made, run_begins, run_closes, history_of}
+use Rattle.bus_semantics.specs.Common.{Plan, History, IsQuiet, Closing, idle, unsettled, Session, made, run_begins, run_closes, history_of}
 
 -- at the word `idle` no activation runs, no event is due, and each mode machine is stable and has begun every accepted switch
 abbrev pub IsQuietAt : Plan → History → Closing → Type 0

@@ -1,16 +1,11 @@
 -- What a run of a script on a node puts, if the node has a history.
 use Rattle.std.specs.Prelude.{◌≡◌, ℕ, List, ◌++◌, true, Option}
-use Rattle.std.specs.List.{list_all}
+use Rattle.bus_semantics.specs.Common.{list_all, Plan, History, item_fits, Session, history_of, IsSessionOf, IsBeginningOf, Spells}
 use Rattle.rte_text.specs.Counts.{Rose}
 use Rattle.rte_text.specs.Sinks.{AppendsWhereTold, AppendsPrefixWhereTold}
 use Rattle.bus_semantics.specs.declared.script.Line.{Line}
 use Rattle.bus_semantics.specs.declared.script.Mapping.{Mapping}
 use Rattle.bus_semantics.specs.declared.version.Version.{Version}
-use Rattle.bus_semantics.specs.Plan.{Plan}
-use Rattle.bus_semantics.specs.History.{History}
-use Rattle.bus_semantics.specs.Reading.{item_fits}
-use Rattle.bus_semantics.specs.Run.{Session, history_of, IsSessionOf, IsBeginningOf}
-use Rattle.bus_semantics.specs.Spelling.{Spells}
 use Rattle.core_runtime.specs.Nodes.{NodeState, IsLawfulNode}
 use Rattle.script_run.specs.declared.script.ScriptRun.{ScriptRun}
 use Rattle.script_run.specs.declared.writing.Writing.{Writing}

@@ -2,8 +2,7 @@
 use Rattle.std.specs.Prelude.{Bool, true, ◌&&◌}
 use Rattle.bus_semantics.specs.declared.entries.Entry.{Entry}
 use Rattle.bus_semantics.specs.declared.entries.Stamped.{Stamped}
-use Rattle.bus_semantics.specs.Reading.{is_sized, is_sized_actor}
-use Rattle.bus_semantics.specs.Run.{Item, made, run_begins, run_closes}
+use Rattle.bus_semantics.specs.Common.{is_sized, is_sized_actor, Item, made, run_begins, run_closes}
 
 abbrev pub is_sized_entry : Entry → Bool
 is_sized_entry e = is_sized_actor e.actor && is_sized e.deed

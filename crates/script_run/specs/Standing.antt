@@ -1,6 +1,7 @@
 -- Where a node stands after a session, how calls of it carry the session on, and what they put.
 use Rattle.std.specs.Prelude.{◌≡◌, ◌<◌, ◌-◌, ◌^◌, min, ℕ, List, [], ◌∷◌, ◌++◌, true, false, Option}
-use Rattle.std.specs.List.{list_all}
+use Rattle.bus_semantics.specs.Common.{list_all, Plan, plan_of, History, Closing, idle, unsettled, Session, made, history_of, Ordered, a_call, orders_of, is_placed, is_inside, made_in_line}
+use Rattle.bus_semantics.specs.Common.{closing_text, Wanted}
 use Rattle.rte_text.specs.declared.sink.Put.{Put}
 use Rattle.rte_text.specs.declared.sink.Put.TheVariants as putting
 use Rattle.rte_text.specs.Sinks.{AppendsWhereTold, AppendsPrefixWhereTold, ToldAfter}
@@ -8,11 +9,6 @@ use Rattle.bus_semantics.specs.declared.entries.Actor.TheVariants.{Env}
 use Rattle.bus_semantics.specs.declared.entries.Entry.{Entry}
 use Rattle.bus_semantics.specs.declared.entries.Stamped.{Stamped}
 use Rattle.bus_semantics.specs.declared.script.Mapping.{Mapping}
-use Rattle.bus_semantics.specs.Plan.{Plan, plan_of}
-use Rattle.bus_semantics.specs.History.{History}
-use Rattle.bus_semantics.specs.Run.{Closing, idle, unsettled, Session, made, history_of, Ordered, a_call, orders_of, is_placed, is_inside, made_in_line}
-use Rattle.bus_semantics.specs.Spelling.{closing_text}
-use Rattle.bus_semantics.specs.Wanted.{Wanted}
 use Rattle.core_runtime.specs.Nodes.{NodeState, IsLawfulNode}
 use Rattle.script_run.specs.declared.script.ScriptRun.{ScriptRun}
 use Rattle.script_run.specs.declared.script.ScriptRun.TheVariants as run

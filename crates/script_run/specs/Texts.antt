@@ -1,9 +1,7 @@
 -- The lines of entries and of items, which are this project's own, as a trace is written.
 use Rattle.std.specs.Prelude.{List, [], ◌∷◌, ◌++◌}
 use Rattle.bus_semantics.specs.declared.entries.Stamped.{Stamped}
-use Rattle.bus_semantics.specs.Plan.{Plan}
-use Rattle.bus_semantics.specs.Run.{Session}
-use Rattle.bus_semantics.specs.Spelling.{Letters, entry_text, item_text}
+use Rattle.bus_semantics.specs.Common.{Plan, Session, Letters, entry_text, item_text}
 use Rattle.script_run.specs.declared.writing.Writing.{Writing}
 
 -- a line, behind the prefix

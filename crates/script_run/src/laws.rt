@@ -3,9 +3,7 @@
 ghost use Rattle.std.specs.Prelude.{ℕ, List, [], ◌++◌, Option};
 ghost use Rattle.bus_semantics.specs.declared.script.Line.{Line};
 ghost use Rattle.bus_semantics.specs.declared.script.Mapping.{Mapping};
-ghost use Rattle.bus_semantics.specs.Plan.{Plan};
-ghost use Rattle.bus_semantics.specs.History.{History};
-ghost use Rattle.bus_semantics.specs.Run.{IsBeginningOf, IsLegalRun, IsSessionOf, Ordered, Session, orders_of_script};
+ghost use Rattle.bus_semantics.specs.Common.{Plan, History, IsBeginningOf, IsLegalRun, IsSessionOf, Ordered, Session, orders_of_script};
 ghost use Rattle.core_runtime.specs.Nodes.{NodeState};
 ghost use Rattle.script_run.specs.declared.writing.Writing.{Writing};
 ghost use Rattle.script_run.specs.Legal.{IsLegalFrom};

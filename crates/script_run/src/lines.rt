@@ -1,12 +1,9 @@
 //! Lines of the trace, each put at once.
 
 ghost use Rattle.std.specs.Prelude.{◌≡◌, true};
-ghost use Rattle.std.specs.List.{list_all};
+ghost use Rattle.bus_semantics.specs.Common.{list_all, plan_of, IsSound, entry_text};
 ghost use Rattle.rte_text.specs.Sinks.{SinkFaultsAfter, ToldAfter};
 ghost use Rattle.bus_semantics.specs.declared.script.Mapping.{Mapping};
-ghost use Rattle.bus_semantics.specs.Plan.{plan_of};
-ghost use Rattle.bus_semantics.specs.Sound.{IsSound};
-ghost use Rattle.bus_semantics.specs.Spelling.{entry_text};
 ghost use Rattle.script_run.specs.Sizes.{is_sized_entry, is_sized_stamped};
 ghost use Rattle.script_run.specs.Standing.{came_of};
 ghost use Rattle.script_run.specs.Texts.{behind, entries_text};

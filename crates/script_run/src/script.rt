@@ -4,11 +4,7 @@ ghost use Rattle.std.specs.Prelude.{◌≡◌, ◌≢◌, [], ◌∷◌, replica
 ghost use Rattle.rte_text.specs.Sinks.{SinkFaultsAfter};
 ghost use Rattle.bus_semantics.specs.declared.entries.Actor.TheVariants.{Env};
 ghost use Rattle.bus_semantics.specs.declared.script.Line.TheVariants as line;
-ghost use Rattle.bus_semantics.specs.Fitting.{wish_fits};
-ghost use Rattle.bus_semantics.specs.History.{History};
-ghost use Rattle.bus_semantics.specs.Plan.{plan_of};
-ghost use Rattle.bus_semantics.specs.Run.{a_call, orders_of_line, orders_of_script};
-ghost use Rattle.bus_semantics.specs.Wanted.{to_tick, wanted_of};
+ghost use Rattle.bus_semantics.specs.Common.{wish_fits, History, plan_of, a_call, orders_of_line, orders_of_script, to_tick, wanted_of};
 ghost use Rattle.script_reading.specs.Carried.{IsCarriable};
 ghost use Rattle.core_runtime.specs.Nodes.{IsLawfulNode};
 ghost use Rattle.script_run.specs.declared.script.ScriptRun.TheVariants.{Finished};

@@ -1,8 +1,7 @@
 //! How large what an entry holds is. By the types of the code it is small enough, so nothing is done here.
 
 ghost use Rattle.std.specs.Prelude.{◌≡◌, true};
-ghost use Rattle.std.specs.List.{list_all};
-ghost use Rattle.bus_semantics.specs.Reading.{are_words, is_sized, is_sized_actor};
+ghost use Rattle.bus_semantics.specs.Common.{list_all, are_words, is_sized, is_sized_actor};
 ghost use Rattle.script_run.specs.Sizes.{is_sized_entry, is_sized_stamped};
 
 use bus_semantics::{Actor, Deed, Entry, Stamped};

@@ -1,22 +1,14 @@
 -- What the calls of a server answer is what the lead gives.
 use Rattle.std.proofs.Common.{◌≡◌, ℕ, ℤ, Bool, true, false, ◌&&◌, ◌==◌, if◌then◌else◌, refl, sym, ◌∙◌, ap, subst, List, [], set, Option, Some, None, is_some}
 use Rattle.std.specs.Prelude.{IsSome, unwrap_or, option_map, option_and_then}
-use Rattle.std.specs.List.{Contains, slice_get}
-use Rattle.std.proofs.lemmas.Bool.{eq-eqb, eqb-true, false≢true}
+use Rattle.bus_semantics.specs.Common.{Contains, slice_get, eq-eqb, eqb-true, false≢true, Value, words_of, same_words, same_number, same_words-Decides, Plan, kind_of, server_of, Wanted}
+use Rattle.bus_semantics.specs.Common.{to_ask, to_hear, to_take_result, to_start, to_return, wanted_by, plain_key, start_fits, event_of}
 use Rattle.std.proofs.lemmas.List.{set-get_or}
-use Rattle.rte_value.specs.declared.value.Value.{Value}
-use Rattle.rte_value.specs.Values.{words_of, same_words, same_number}
-use Rattle.rte_value.specs.EqualValues.{same_words-Decides}
 use Rattle.bus_semantics.specs.declared.plan.EventKind.TheVariants.{Invoked}
 use Rattle.bus_semantics.specs.declared.entries.Actor.{Actor}
 use Rattle.bus_semantics.specs.declared.entries.Actor.TheVariants.{Act}
 use Rattle.bus_semantics.specs.declared.entries.Deed.{Deed}
 use Rattle.bus_semantics.specs.declared.entries.Deed.TheVariants as deed
-use Rattle.bus_semantics.specs.Plan.{Plan, kind_of, server_of}
-use Rattle.bus_semantics.specs.Wanted.{Wanted, to_ask, to_hear, to_take_result, to_start, to_return, wanted_by}
-use Rattle.bus_semantics.specs.Rest.{plain_key}
-use Rattle.bus_semantics.specs.Fitting.{start_fits}
-use Rattle.bus_semantics.specs.Asked.{event_of}
 use Rattle.client_server.specs.declared.point.Outcome.{Outcome}
 use Rattle.client_server.specs.declared.point.Request.{Request}
 use Rattle.client_server.specs.Kept as calls
@@ -24,13 +16,12 @@ use Rattle.client_server.specs.Points.{is_started, new_point, outcome_in, value_
 use Rattle.object_kinds.specs.declared.acted.Acted.{Acted}
 use Rattle.object_kinds.specs.declared.acted.Acted.TheVariants.{Done, NotYet}
 use Rattle.object_kinds.specs.declared.acted.Shown.{Shown}
-use Rattle.object_kinds.specs.Kinds.{IsAnswerOf}
-use Rattle.object_kinds.specs.Flags.{given}
-use Rattle.object_kinds.specs.Layout.{place}
+use Rattle.object_kinds.specs.Common.{IsAnswerOf, given, place}
 use Rattle.server_objects.specs.Acting.{Leads, Holds, IsActed, StartLeads, NoStart, ReturnLeads, IsAskedAt, IsTaken}
 use Rattle.server_objects.specs.Kept.{Kept, ServerState, awaited_at, has_next, is_due_at, may_hear, may_start}
 use Rattle.server_objects.specs.Layout.{server_in}
-use Rattle.server_objects.specs.Leading.{is_outcome, is_result, asked_at, heard_at, taken_at, own_place, started_directly, started_server, started_return, lead_of_start, serving_of, returned_at, lead_of_server, heard_by, with_served, lead, why_held}
+use Rattle.server_objects.specs.Leading.{is_outcome, is_result, asked_at, heard_at, taken_at, own_place, started_directly, started_server, started_return, lead_of_start, serving_of}
+use Rattle.server_objects.specs.Leading.{returned_at, lead_of_server, heard_by, with_served, lead, why_held}
 use Rattle.server_objects.specs.Plans.{IsOfPlan}
 use Rattle.server_objects.proofs.Facts.{points_joined}
 use Rattle.server_objects.proofs.Hearing.{heard_comes}

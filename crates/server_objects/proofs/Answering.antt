@@ -1,19 +1,11 @@
 -- What a server answers by what it keeps is what the definitions say of its past.
 use Rattle.std.proofs.Common.{◌≡◌, ◌+◌, ℕ, ℤ, Bool, true, false, ◌&&◌, ◌||◌, ◌==◌, not, if◌then◌else◌, refl, sym, ◌∙◌, ap, subst, arith, List, ◌∷◌, length, Option, Some, None}
 use Rattle.std.specs.Prelude.{option_map, nat_lt, nat_le}
-use Rattle.std.specs.List.{slice_get}
-use Rattle.std.proofs.lemmas.Bool.{eq-eqb}
-use Rattle.std.proofs.lemmas.Bool.Decides.{nat_tests}
-use Rattle.std.proofs.lemmas.List.{length-map}
-use Rattle.rte_value.specs.declared.kinds.ActKey.{ActKey}
-use Rattle.rte_value.specs.declared.value.Value.{Value}
-use Rattle.rte_value.specs.Values.{words_of, same_words}
-use Rattle.rte_value.specs.EqualValues.{same_words-Decides}
+use Rattle.bus_semantics.specs.Common.{slice_get, eq-eqb, nat_tests, length-map, ActKey, Value, words_of, same_words, same_words-Decides, Plan, server_of, queue_of, Past, is_outstanding}
+use Rattle.bus_semantics.specs.Common.{answer_to, result_of, counts_with, requests_of, starts_of, is_queue_full, ask_code, next_request, is_request, is_key_point, starts_request}
+use Rattle.bus_semantics.specs.Common.{has_unstarted}
 use Rattle.bus_semantics.specs.declared.entries.Actor.{Actor}
 use Rattle.bus_semantics.specs.declared.entries.Actor.TheVariants.{Act}
-use Rattle.bus_semantics.specs.Plan.{Plan, server_of, queue_of}
-use Rattle.bus_semantics.specs.History.{Past}
-use Rattle.bus_semantics.specs.Calls.{is_outstanding, answer_to, result_of, counts_with, requests_of, starts_of, is_queue_full, ask_code, next_request, is_request, is_key_point, starts_request, has_unstarted}
 use Rattle.bus_semantics.specs.Legal as legal
 use Rattle.client_server.specs.declared.point.Outcome.{Outcome}
 use Rattle.client_server.specs.Kept as calls

@@ -1,16 +1,9 @@
 -- A direct server: what each entry makes of the requests of each point.
 use Rattle.std.proofs.Common.{◌≡◌, ◌<◌, ℕ, ℤ, zero, suc, Bool, true, false, ◌==◌, refl, sym, ◌∙◌, ap, subst, List, [], ◌∷◌, length, get_or, set, Option, Some, None}
-use Rattle.std.specs.List.{slice_get}
-use Rattle.std.proofs.lemmas.Bool.{eq-eqb}
-use Rattle.std.proofs.lemmas.Option.{same_Some}
-use Rattle.rte_value.specs.declared.kinds.ActKey.{ActKey}
-use Rattle.rte_value.specs.declared.value.Value.{Value}
-use Rattle.rte_value.specs.Values.{words_of}
+use Rattle.bus_semantics.specs.Common.{slice_get, eq-eqb, same_Some, ActKey, Value, words_of, Plan, Noted, Past}
 use Rattle.bus_semantics.specs.declared.entries.Actor.{Actor}
 use Rattle.bus_semantics.specs.declared.entries.Actor.TheVariants.{Act}
 use Rattle.bus_semantics.specs.declared.entries.Deed.TheVariants as deed
-use Rattle.bus_semantics.specs.Plan.{Plan}
-use Rattle.bus_semantics.specs.History.{Noted, Past}
 use Rattle.client_server.specs.declared.point.Point.{Point}
 use Rattle.client_server.specs.declared.point.Stage.TheVariants.{Asked, Started, Returned}
 use Rattle.client_server.specs.Kept as calls

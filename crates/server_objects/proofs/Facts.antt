@@ -1,32 +1,19 @@
 -- A server of a plan: what an entry that touches it says of its actor and its event, and its points by place.
 use Rattle.std.proofs.Common.{◌≡◌, ◌<◌, ◌+◌, ℕ, ℤ, Bool, true, false, not, ◌==◌, if◌then◌else◌, refl, sym, ◌∙◌, ap, subst, arith, List, length, get_or, set, Option, Some, None, ◌⊎◌, inl, inr}
 use Rattle.std.specs.Prelude.{is_none, nat_lt}
-use Rattle.std.specs.List.{list_all, slice_get}
-use Rattle.std.proofs.lemmas.Bool.{and_parts, cases_eq, eqb-true, false≢true}
-use Rattle.std.proofs.lemmas.List.{get_or-set_same, get_or-set_other}
-use Rattle.std.proofs.lemmas.Option.{same_Some, get_or_from_slice_get}
-use Rattle.rte_value.specs.declared.kinds.ActKey.{ActKey}
-use Rattle.rte_value.specs.declared.value.Value.{Value}
-use Rattle.rte_value.specs.Values.{words_of, same_number}
-use Rattle.rte_value.specs.EqualKeys.{same_key-Decides, same_number-Decides}
+use Rattle.bus_semantics.specs.Common.{list_all, slice_get, and_parts, cases_eq, eqb-true, false≢true, get_or-set_same, get_or-set_other, same_Some, get_or_from_slice_get, ActKey, Value}
+use Rattle.bus_semantics.specs.Common.{words_of, same_number, same_key-Decides, same_number-Decides, Plan, server_of, queue_of, kind_of, runnable_of_event, positions, needs_event, made_by}
+use Rattle.bus_semantics.specs.Common.{wanted_by, first_server, server_object, served_by, serves_directly, key_fits, fits, start_fits, activation_may_want, instance_of, starts_its_own}
+use Rattle.bus_semantics.specs.Common.{is_proper}
 use Rattle.bus_semantics.specs.declared.plan.EventKind.{EventKind}
 use Rattle.bus_semantics.specs.declared.plan.EventKind.TheVariants.{Invoked, Returns}
 use Rattle.bus_semantics.specs.declared.entries.Actor.{Actor}
 use Rattle.bus_semantics.specs.declared.entries.Actor.TheVariants.{Act}
 use Rattle.bus_semantics.specs.declared.entries.Deed.{Deed}
 use Rattle.bus_semantics.specs.declared.entries.Deed.TheVariants as deed
-use Rattle.bus_semantics.specs.Plan.{Plan, server_of, queue_of, kind_of, runnable_of_event, positions}
-use Rattle.bus_semantics.specs.History.{needs_event, made_by}
-use Rattle.bus_semantics.specs.Wanted.{wanted_by}
-use Rattle.bus_semantics.specs.Objects.{first_server, server_object, served_by}
-use Rattle.bus_semantics.specs.Owners.{serves_directly, key_fits}
-use Rattle.bus_semantics.specs.Fitting.{fits, start_fits, activation_may_want}
-use Rattle.bus_semantics.specs.Plan.{instance_of}
-use Rattle.bus_semantics.specs.Locality.{starts_its_own, is_proper}
 use Rattle.client_server.specs.declared.point.Point.{Point}
 use Rattle.client_server.specs.Points.{new_point}
-use Rattle.object_kinds.specs.Layout.{place}
-use Rattle.object_kinds.specs.Rising.{is_rising}
+use Rattle.object_kinds.specs.Common.{place, is_rising}
 use Rattle.object_kinds.proofs.Lists.{all_at, all_filter}
 use Rattle.object_kinds.proofs.Proper.{noting, wish_part, answer_part}
 use Rattle.object_kinds.proofs.Rising.{place_here, rising_positions}

@@ -1,12 +1,7 @@
 -- An Answer comes by a Return to its own point, and by nothing else.
 use Rattle.std.proofs.Common.{◌≡◌, ◌⊎◌, inl, inr, ℕ, ◌==◌, ◌&&◌, Bool, true, false, if◌then◌else◌, refl, sym, ◌∙◌, ap, subst, List, get_or, set, Option, Some, None, is_some}
 use Rattle.std.specs.Prelude.{option_and_then}
-use Rattle.std.specs.List.{slice_get}
-use Rattle.std.proofs.lemmas.Bool.{cases_eq, eq-eqb, false≢true}
-use Rattle.std.proofs.lemmas.List.{get_or-set_other}
-use Rattle.rte_value.specs.declared.value.Value.{Value}
-use Rattle.rte_value.specs.Values.{words_of, same_words, same_number}
-use Rattle.rte_value.specs.EqualValues.{same_words-Decides}
+use Rattle.bus_semantics.specs.Common.{slice_get, cases_eq, eq-eqb, false≢true, get_or-set_other, Value, words_of, same_words, same_number, same_words-Decides}
 use Rattle.bus_semantics.specs.declared.entries.Actor.{Actor}
 use Rattle.bus_semantics.specs.declared.entries.Deed.{Deed}
 use Rattle.bus_semantics.specs.declared.entries.Deed.TheVariants as deed
@@ -15,8 +10,7 @@ use Rattle.client_server.specs.declared.point.Outcome.{Outcome}
 use Rattle.client_server.specs.declared.point.Stage.TheVariants.{Asked, Returned}
 use Rattle.client_server.specs.Kept as calls
 use Rattle.client_server.specs.Points.{is_started, new_point, outcome_in}
-use Rattle.object_kinds.specs.Flags.{given}
-use Rattle.object_kinds.specs.Layout.{place}
+use Rattle.object_kinds.specs.Common.{given, place}
 use Rattle.object_kinds.proofs.Options.{given_some, then_some}
 use Rattle.object_kinds.proofs.Placing.{place_at}
 use Rattle.server_objects.specs.Kept.{Kept, ServerState, is_returned_at, may_hear}

@@ -1,40 +1,27 @@
 -- The law of leads: an entry by which a server leads on follows its past, and what is kept then is what the definitions give.
 use Rattle.std.proofs.Common.{◌≡◌, ◌<◌, ℕ, Bool, true, false, ◌&&◌, ◌||◌, ◌==◌, not, if◌then◌else◌, refl, sym, ◌∙◌, ap, subst, arith, [], ◌∷◌, length, map, set, Option, Some, None, is_some}
 use Rattle.std.specs.Prelude.{option_map, option_and_then, nat_lt}
-use Rattle.std.specs.List.{slice_get}
-use Rattle.std.proofs.lemmas.Bool.{and_parts, eq-eqb, eqb-true, false≢true}
-use Rattle.std.proofs.lemmas.Option.{same_Some, slice_get-get_or}
-use Rattle.rte_value.specs.declared.kinds.ActKey.{ActKey}
-use Rattle.rte_value.specs.declared.value.Value.{Value}
-use Rattle.rte_value.specs.Values.{words_of, same_words, same_number}
+use Rattle.bus_semantics.specs.Common.{slice_get, and_parts, eq-eqb, eqb-true, false≢true, same_Some, slice_get-get_or, ActKey, Value, words_of, same_words, same_number, Plan, queue_of}
+use Rattle.bus_semantics.specs.Common.{kind_of, runnable_of_event, Noted, Past, served_by, touches, key_fits, is_key_point, starts_request, serves, is_due, is_due_kind, is_proper}
+use Rattle.bus_semantics.specs.Common.{start_matches, is_open, serves_by, serves_any, Follows}
 use Rattle.bus_semantics.specs.declared.plan.EventKind.TheVariants.{Invoked, Returns}
 use Rattle.bus_semantics.specs.declared.entries.Actor.{Actor}
 use Rattle.bus_semantics.specs.declared.entries.Actor.TheVariants.{Env, Machine, Act}
 use Rattle.bus_semantics.specs.declared.entries.Deed.{Deed}
 use Rattle.bus_semantics.specs.declared.entries.Deed.TheVariants as deed
-use Rattle.bus_semantics.specs.Plan.{Plan, queue_of, kind_of, runnable_of_event}
-use Rattle.bus_semantics.specs.History.{Noted, Past}
-use Rattle.bus_semantics.specs.Objects.{served_by, touches}
-use Rattle.bus_semantics.specs.Owners.{key_fits}
-use Rattle.bus_semantics.specs.Calls.{is_key_point, starts_request, serves}
-use Rattle.bus_semantics.specs.Due.{is_due, is_due_kind}
-use Rattle.bus_semantics.specs.Locality.{is_proper}
-use Rattle.bus_semantics.specs.Matching.{start_matches, is_open, serves_by, serves_any}
-use Rattle.bus_semantics.specs.Pasts.{Follows}
 use Rattle.client_server.specs.declared.point.Outcome.{Outcome}
 use Rattle.client_server.specs.declared.point.Request.{Request}
 use Rattle.client_server.specs.declared.point.Stage.TheVariants.{Returned, Started}
 use Rattle.client_server.specs.Kept as calls
 use Rattle.client_server.specs.Points.{is_started, outcome_in, value_asked}
-use Rattle.object_kinds.specs.Kinds.{LeadsFollow, LeadsKeep}
-use Rattle.object_kinds.specs.Flags.{given}
-use Rattle.object_kinds.specs.Layout.{place}
+use Rattle.object_kinds.specs.Common.{LeadsFollow, LeadsKeep, given, place}
 use Rattle.object_kinds.proofs.Options.{given_some, then_some, mapped_some}
 use Rattle.object_kinds.proofs.Placing.{place_at}
 use Rattle.object_kinds.proofs.Proper.{noting, wish_part, admitted}
 use Rattle.server_objects.specs.Kept.{Kept, awaited_at}
 use Rattle.server_objects.specs.Layout.{server_in, event_in, runnable_in, is_joined_to}
-use Rattle.server_objects.specs.Leading.{asked_at, heard_at, is_outcome, is_result, taken_at, own_place, started_server, started_return, lead_of_start, serving_of, returned_at, lead_of_server, with_served, lead}
+use Rattle.server_objects.specs.Leading.{asked_at, heard_at, is_outcome, is_result, taken_at, own_place, started_server, started_return, lead_of_start, serving_of, returned_at}
+use Rattle.server_objects.specs.Leading.{lead_of_server, with_served, lead}
 use Rattle.server_objects.specs.Standing.{number_at, words_of_asked, request_at, RequestsStand, QueueStands, DirectStands, CallsStand, Keeps}
 use Rattle.server_objects.proofs.Answering as answering
 use Rattle.server_objects.proofs.Directly.{asked_stands, started_stands}

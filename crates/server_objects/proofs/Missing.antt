@@ -1,13 +1,10 @@
 -- A server of a sound plan misses no entry that may follow its past.
 use Rattle.std.proofs.Common.{◌≡◌, ◌+◌, ℕ, Bool, true, false, ◌&&◌, ◌||◌, ◌==◌, not, if◌then◌else◌, refl, sym, ◌∙◌, ap, subst, arith, List, [], ◌∷◌, length, map, Option, Some, None, is_some}
 use Rattle.std.specs.Prelude.{option_map, option_and_then, is_none}
-use Rattle.std.specs.List.{list_any, slice_get}
-use Rattle.std.proofs.lemmas.Bool.{and_parts, eq-eqb, eqb-true, false≢true, not-true}
-use Rattle.std.proofs.lemmas.Bool.Decides.{nat_tests}
-use Rattle.std.proofs.lemmas.Option.{same_Some, slice_get-get_or}
-use Rattle.rte_value.specs.declared.kinds.ActKey.{ActKey}
-use Rattle.rte_value.specs.declared.value.Value.{Value}
-use Rattle.rte_value.specs.Values.{words_of, same_words, same_number}
+use Rattle.bus_semantics.specs.Common.{list_any, slice_get, and_parts, eq-eqb, eqb-true, false≢true, not-true, nat_tests, same_Some, slice_get-get_or, ActKey, Value, words_of, same_words}
+use Rattle.bus_semantics.specs.Common.{same_number, Plan, server_of, queue_of, kind_of, runnable_of_event, Past, served_by, key_fits, ask_code, answer_to, result_of, requests_of, starts_of}
+use Rattle.bus_semantics.specs.Common.{has_unstarted, next_request, is_request, is_key_point, starts_request, is_due_kind, counts_for, is_open, serves_by, serves_any, start_matches, Follows}
+use Rattle.bus_semantics.specs.Common.{IsSound}
 use Rattle.bus_semantics.specs.declared.plan.EventKind.{EventKind}
 use Rattle.bus_semantics.specs.declared.plan.EventKind.TheVariants.{Invoked, Returns}
 use Rattle.bus_semantics.specs.declared.script.Mapping.{Mapping}
@@ -15,21 +12,10 @@ use Rattle.bus_semantics.specs.declared.entries.Actor.{Actor}
 use Rattle.bus_semantics.specs.declared.entries.Actor.TheVariants.{Env, Machine, Act}
 use Rattle.bus_semantics.specs.declared.entries.Deed.{Deed}
 use Rattle.bus_semantics.specs.declared.entries.Deed.TheVariants as deed
-use Rattle.bus_semantics.specs.Plan.{Plan, server_of, queue_of, kind_of, runnable_of_event}
-use Rattle.bus_semantics.specs.History.{Past}
-use Rattle.bus_semantics.specs.Objects.{served_by}
-use Rattle.bus_semantics.specs.Owners.{key_fits}
-use Rattle.bus_semantics.specs.Calls.{ask_code, answer_to, result_of, requests_of, starts_of, has_unstarted, next_request, is_request, is_key_point, starts_request}
-use Rattle.bus_semantics.specs.Due.{is_due_kind, counts_for}
 use Rattle.bus_semantics.specs.Legal as legal
-use Rattle.bus_semantics.specs.Matching.{is_open, serves_by, serves_any, start_matches}
-use Rattle.bus_semantics.specs.Pasts.{Follows}
-use Rattle.bus_semantics.specs.Sound.{IsSound}
 use Rattle.client_server.specs.Kept as calls
 use Rattle.client_server.specs.Points.{is_started, outcome_in, value_asked}
-use Rattle.object_kinds.specs.Kinds.{MissesNothing}
-use Rattle.object_kinds.specs.Flags.{given}
-use Rattle.object_kinds.specs.Layout.{place}
+use Rattle.object_kinds.specs.Common.{MissesNothing, given, place}
 use Rattle.object_kinds.proofs.Classes.{On, StartsOn}
 use Rattle.object_kinds.proofs.Events.{started_placed}
 use Rattle.object_kinds.proofs.Numbers.{a_server}
@@ -38,7 +24,8 @@ use Rattle.object_kinds.proofs.Placing.{Placed, place_at}
 use Rattle.object_kinds.proofs.Proper.{noting, wish_part}
 use Rattle.server_objects.specs.Kept.{Kept, awaited_at}
 use Rattle.server_objects.specs.Layout.{server_in, runnable_in, is_joined_to, returns_for, awaited_by}
-use Rattle.server_objects.specs.Leading.{asked_at, heard_at, is_outcome, is_result, taken_at, own_place, started_next, started_directly, started_server, started_return, lead_of_start, serving_of, returned_at, lead_of_server, with_served, lead}
+use Rattle.server_objects.specs.Leading.{asked_at, heard_at, is_outcome, is_result, taken_at, own_place, started_next, started_directly, started_server, started_return, lead_of_start}
+use Rattle.server_objects.specs.Leading.{serving_of, returned_at, lead_of_server, with_served, lead}
 use Rattle.server_objects.specs.Standing.{number_at, request_at, words_of_asked, unstarted_at, served_at, QueueStands, DirectStands, Keeps}
 use Rattle.server_objects.proofs.Answering as answering
 use Rattle.server_objects.proofs.Facts.{OwnPoint, home_of, queued_point, direct_point, key_is, key_part, own_event, start_part, invoked_names}

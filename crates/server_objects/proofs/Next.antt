@@ -1,14 +1,10 @@
 -- What the calls of a server made of what was kept, from what the lead says of them.
 use Rattle.std.proofs.Common.{◌≡◌, ◌<◌, ℕ, true, refl, sym, ◌∙◌, ap, subst, List, [], ◌∷◌, length, map, drop, Option, Some, None}
 use Rattle.std.specs.Prelude.{unwrap_or}
-use Rattle.std.specs.List.{list_all, slice_get}
-use Rattle.std.proofs.lemmas.Bool.{false≢true}
-use Rattle.std.proofs.lemmas.Option.{same_Some, slice_get_within}
-use Rattle.rte_value.specs.declared.value.Value.{Value}
+use Rattle.bus_semantics.specs.Common.{list_all, slice_get, false≢true, same_Some, slice_get_within, Value, Plan, server_of, kind_of}
 use Rattle.bus_semantics.specs.declared.plan.PointPlan.{PointPlan}
 use Rattle.bus_semantics.specs.declared.plan.EventKind.{EventKind}
 use Rattle.bus_semantics.specs.declared.plan.EventKind.TheVariants.{Returns}
-use Rattle.bus_semantics.specs.Plan.{Plan, server_of, kind_of}
 use Rattle.client_server.specs.declared.point.Outcome.{Outcome}
 use Rattle.client_server.specs.declared.point.Request.{Request}
 use Rattle.client_server.specs.declared.point.Stage.TheVariants.{Idle, Started}

@@ -1,8 +1,7 @@
 -- What a server keeps at first is what the definitions give from no entry.
 use Rattle.std.proofs.Common.{◌≡◌, ℕ, zero, suc, refl, sym, ap, subst, [], length, get_or, Option, Some, None}
 use Rattle.std.specs.Prelude.{replicate}
-use Rattle.std.proofs.lemmas.List.{length-replicate}
-use Rattle.bus_semantics.specs.Plan.{Plan, queue_of}
+use Rattle.bus_semantics.specs.Common.{length-replicate, Plan, queue_of}
 use Rattle.client_server.specs.declared.point.Point.{Point}
 use Rattle.client_server.specs.Kept as calls
 use Rattle.client_server.specs.Points.{is_started, new_point}

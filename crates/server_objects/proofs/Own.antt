@@ -1,13 +1,9 @@
 -- An Answer gives the Return of the point's own request.
 use Rattle.std.proofs.Common.{◌≡◌, ◌<◌, ℕ, ℤ, Bool, true, false, ◌&&◌, ◌==◌, not, if◌then◌else◌, refl, sym, ◌∙◌, ap, subst, arith, List, [], ◌∷◌, ◌++◌, Option, Some, None, is_some}
 use Rattle.std.specs.Prelude.{is_none, unwrap_or}
-use Rattle.std.specs.Option.{option_or}
-use Rattle.std.proofs.lemmas.Bool.{and_parts, eqb-true, false≢true}
-use Rattle.std.proofs.lemmas.Option.{same_Some}
-use Rattle.rte_value.specs.declared.kinds.ActKey.{ActKey}
-use Rattle.rte_value.specs.declared.value.Value.{Value}
-use Rattle.rte_value.specs.Values.{words_of, same_words, same_number}
-use Rattle.rte_value.specs.EqualValues.{same_words-Decides}
+use Rattle.bus_semantics.specs.Common.{option_or, and_parts, eqb-true, false≢true, same_Some, ActKey, Value, words_of, same_words, same_number, same_words-Decides, Plan, kind_of, server_of}
+use Rattle.bus_semantics.specs.Common.{Noted, Past, newest, made_by, is_request_at, is_outstanding, returned_by, returned_to, answer_to, serves, start_names, start_fits, object_of_kind}
+use Rattle.bus_semantics.specs.Common.{is_open, serves_by, Follows, IsPastOf, IsSound}
 use Rattle.bus_semantics.specs.declared.plan.EventKind.{EventKind}
 use Rattle.bus_semantics.specs.declared.plan.EventKind.TheVariants.{Invoked}
 use Rattle.bus_semantics.specs.declared.script.Mapping.{Mapping}
@@ -15,15 +11,7 @@ use Rattle.bus_semantics.specs.declared.entries.Actor.{Actor}
 use Rattle.bus_semantics.specs.declared.entries.Actor.TheVariants.{Env, Machine, Act}
 use Rattle.bus_semantics.specs.declared.entries.Deed.{Deed}
 use Rattle.bus_semantics.specs.declared.entries.Deed.TheVariants as deed
-use Rattle.bus_semantics.specs.Plan.{Plan, kind_of, server_of}
-use Rattle.bus_semantics.specs.History.{Noted, Past, newest, made_by}
-use Rattle.bus_semantics.specs.Calls.{is_request_at, is_outstanding, returned_by, returned_to, answer_to, serves, start_names}
-use Rattle.bus_semantics.specs.Fitting.{start_fits}
-use Rattle.bus_semantics.specs.Objects.{object_of_kind}
 use Rattle.bus_semantics.specs.Legal as legal
-use Rattle.bus_semantics.specs.Matching.{is_open, serves_by}
-use Rattle.bus_semantics.specs.Pasts.{Follows, IsPastOf}
-use Rattle.bus_semantics.specs.Sound.{IsSound}
 use Rattle.object_kinds.proofs.Options.{clash}
 use Rattle.object_kinds.proofs.Proper.{noting}
 use Rattle.server_objects.specs.Answered.{none_asked, none_served, IsReturnOf}

@@ -1,21 +1,13 @@
 -- In a sound plan each server has one event and one runnable, and that event alone starts that runnable.
 use Rattle.std.proofs.Common.{◌≡◌, ◌<◌, ◌≤◌, ◌+◌, ◌^◌, ℕ, zero, suc, Bool, true, false, ◌&&◌, ◌||◌, ◌==◌, not, refl, sym, ◌∙◌, ap, subst, arith, List, [], ◌∷◌, length, Option, Some, None}
 use Rattle.std.specs.Prelude.{nat_lt, nat_le}
-use Rattle.std.specs.List.{slice_get}
-use Rattle.std.specs.Option.{option_map_or}
-use Rattle.std.proofs.lemmas.Bool.{and_parts, eq-eqb, eqb-true, leb-true}
-use Rattle.std.proofs.lemmas.Option.{same_Some}
-use Rattle.rte_value.specs.Values.{same_number}
+use Rattle.bus_semantics.specs.Common.{slice_get, option_map_or, and_parts, eq-eqb, eqb-true, leb-true, same_Some, same_number, Plan, Runnable, look, every_from, kind_of, runnable_of_event}
+use Rattle.bus_semantics.specs.Common.{instance_of, first_server, server_sound, kind_sound, disabling_sound, is_invoked, event_sound, server_served, serves_back, IsSound}
 use Rattle.bus_semantics.specs.declared.plan.EventPlan.{EventPlan}
 use Rattle.bus_semantics.specs.declared.plan.EventKind.{EventKind}
 use Rattle.bus_semantics.specs.declared.plan.EventKind.TheVariants.{Init, Invoked}
 use Rattle.bus_semantics.specs.declared.plan.ServerPlan.{ServerPlan}
 use Rattle.bus_semantics.specs.declared.script.Mapping.{Mapping}
-use Rattle.bus_semantics.specs.Plan.{Plan, Runnable, look, every_from, kind_of, runnable_of_event, instance_of}
-use Rattle.bus_semantics.specs.Objects.{first_server}
-use Rattle.bus_semantics.specs.SoundElements.{server_sound}
-use Rattle.bus_semantics.specs.SoundEvents.{kind_sound, disabling_sound, is_invoked, event_sound, server_served, serves_back}
-use Rattle.bus_semantics.specs.Sound.{IsSound}
 use Rattle.object_kinds.proofs.Lists.{every_at}
 use Rattle.object_kinds.proofs.Ranges.{sought, given_at, kind_fits, joined_server}
 use Rattle.server_objects.specs.Layout.{server_in, event_in, runnable_in, IsServer}

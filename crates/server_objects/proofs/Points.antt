@@ -1,20 +1,12 @@
 -- A point: what each entry makes of it.
 use Rattle.std.proofs.Common.{◌≡◌, ℕ, ℤ, zero, Bool, true, false, ◌&&◌, ◌||◌, ◌==◌, not, if◌then◌else◌, refl, sym, ◌∙◌, ap, List, ◌∷◌, Option, Some, None, is_some}
 use Rattle.std.specs.Prelude.{option_map, nat_lt}
-use Rattle.std.specs.Option.{option_or}
-use Rattle.std.proofs.lemmas.Bool.{eq-eqb, false≢true}
-use Rattle.std.proofs.lemmas.Option.{same_Some}
-use Rattle.rte_value.specs.declared.kinds.ActKey.{ActKey}
-use Rattle.rte_value.specs.declared.value.Value.{Value}
-use Rattle.rte_value.specs.Values.{words_of}
+use Rattle.bus_semantics.specs.Common.{option_or, eq-eqb, false≢true, same_Some, ActKey, Value, words_of, Plan, Noted, Past, is_request_at, takes_reply_at, is_outstanding, returned_by}
+use Rattle.bus_semantics.specs.Common.{returned_to, serves, follows_last, returns_to, is_start_by_return_of}
 use Rattle.bus_semantics.specs.declared.entries.Actor.{Actor}
 use Rattle.bus_semantics.specs.declared.entries.Actor.TheVariants.{Env, Machine, Act}
 use Rattle.bus_semantics.specs.declared.entries.Deed.{Deed}
 use Rattle.bus_semantics.specs.declared.entries.Deed.TheVariants as deed
-use Rattle.bus_semantics.specs.Plan.{Plan}
-use Rattle.bus_semantics.specs.History.{Noted, Past}
-use Rattle.bus_semantics.specs.Calls.{is_request_at, takes_reply_at, is_outstanding, returned_by, returned_to, serves}
-use Rattle.bus_semantics.specs.Due.{follows_last, returns_to, is_start_by_return_of}
 use Rattle.client_server.specs.declared.point.Outcome.{Outcome}
 use Rattle.client_server.specs.declared.point.Point.{Point}
 use Rattle.client_server.specs.declared.point.Stage.{Stage}

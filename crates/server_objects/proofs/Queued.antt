@@ -1,20 +1,12 @@
 -- A queued server: what each entry makes of the requests that wait and of the one that is served.
 use Rattle.std.proofs.Common.{◌≡◌, ◌<◌, ◌≤◌, ℕ, ℤ, zero, Bool, true, false, ◌==◌, refl, sym, ◌∙◌, ap, subst, arith, List, [], ◌∷◌, ◌++◌, length, map, get_or, set, Option, Some, None, is_some}
 use Rattle.std.specs.Prelude.{option_map, nat_lt}
-use Rattle.std.specs.List.{list_any, slice_get}
-use Rattle.std.proofs.lemmas.Bool.{eq-eqb, false≢true, ltb-true, or_parts}
-use Rattle.std.proofs.lemmas.Bool.Decides.{nat_tests}
-use Rattle.std.proofs.lemmas.List.{length-set, map-append, get_or-set_same, get_or_past}
-use Rattle.std.proofs.lemmas.Option.{same_Some, slice_get-get_or}
-use Rattle.rte_value.specs.declared.kinds.ActKey.{ActKey}
-use Rattle.rte_value.specs.declared.value.Value.{Value}
-use Rattle.rte_value.specs.Values.{words_of, same_number}
+use Rattle.bus_semantics.specs.Common.{list_any, slice_get, eq-eqb, false≢true, ltb-true, or_parts, nat_tests, length-set, map-append, get_or-set_same, same_Some, slice_get-get_or, ActKey}
+use Rattle.bus_semantics.specs.Common.{Value, words_of, same_number, Plan, kind_of, Noted, Past, made_by, is_open, serves_any}
+use Rattle.std.proofs.lemmas.List.{get_or_past}
 use Rattle.bus_semantics.specs.declared.plan.EventKind.TheVariants.{Invoked}
 use Rattle.bus_semantics.specs.declared.entries.Actor.{Actor}
 use Rattle.bus_semantics.specs.declared.entries.Deed.TheVariants as deed
-use Rattle.bus_semantics.specs.Plan.{Plan, kind_of}
-use Rattle.bus_semantics.specs.History.{Noted, Past, made_by}
-use Rattle.bus_semantics.specs.Matching.{is_open, serves_any}
 use Rattle.client_server.specs.declared.point.Point.{Point}
 use Rattle.client_server.specs.declared.point.Stage.TheVariants.{Asked, Started, Returned}
 use Rattle.client_server.specs.Asked.{AreAsked}

@@ -1,20 +1,12 @@
 -- Requests that start one after the other: what each entry makes of them.
 use Rattle.std.proofs.Common.{◌≡◌, ◌≤◌, ◌+◌, ℕ, ℤ, zero, suc, Bool, true, false, ◌==◌, if◌then◌else◌, refl, sym, ◌∙◌, ap, arith, List, [], ◌∷◌, ◌++◌, length, drop, length-append, Option, Some, None}
 use Rattle.std.specs.Prelude.{unwrap_or}
-use Rattle.std.specs.List.{slice_get}
-use Rattle.std.specs.Option.{option_or}
-use Rattle.std.proofs.lemmas.Bool.{eqb-true}
+use Rattle.bus_semantics.specs.Common.{slice_get, option_or, eqb-true, same_Some, ActKey, Value, words_of, same_number, Noted, Past, newest, made_by, requests_of, starts_of, is_start_of}
+use Rattle.bus_semantics.specs.Common.{serves, is_open, serves_by}
 use Rattle.std.proofs.lemmas.List.{drop-append-le}
-use Rattle.std.proofs.lemmas.Option.{same_Some}
-use Rattle.rte_value.specs.declared.kinds.ActKey.{ActKey}
-use Rattle.rte_value.specs.declared.value.Value.{Value}
-use Rattle.rte_value.specs.Values.{words_of, same_number}
 use Rattle.bus_semantics.specs.declared.entries.Actor.{Actor}
 use Rattle.bus_semantics.specs.declared.entries.Actor.TheVariants.{Act}
 use Rattle.bus_semantics.specs.declared.entries.Deed.TheVariants as deed
-use Rattle.bus_semantics.specs.History.{Noted, Past, newest, made_by}
-use Rattle.bus_semantics.specs.Calls.{requests_of, starts_of, is_start_of, serves}
-use Rattle.bus_semantics.specs.Matching.{is_open, serves_by}
 use Rattle.object_kinds.proofs.Proper.{noting}
 use Rattle.server_objects.specs.Standing.{RequestsStand}
 use Rattle.server_objects.proofs.Facts.{if_same}

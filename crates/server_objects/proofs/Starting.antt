@@ -1,25 +1,18 @@
 -- A start goes by its flag, and only an Ask or a Return sets one.
 use Rattle.std.proofs.Common.{◌≡◌, ℕ, zero, suc, Bool, true, false, ◌&&◌, ◌==◌, if◌then◌else◌, refl, sym, ◌∙◌, ap, subst, List, [], ◌∷◌, get_or, set, Option, Some, None, is_some}
 use Rattle.std.specs.Prelude.{option_map, option_and_then, unwrap_or}
-use Rattle.std.specs.List.{slice_get}
-use Rattle.std.proofs.lemmas.Bool.{false≢true}
-use Rattle.rte_value.specs.declared.value.Value.{Value}
-use Rattle.rte_value.specs.Values.{words_of, same_words, same_number}
+use Rattle.bus_semantics.specs.Common.{slice_get, false≢true, Value, words_of, same_words, same_number, plain_key, to_start, wanted_by}
 use Rattle.bus_semantics.specs.declared.entries.Actor.{Actor}
 use Rattle.bus_semantics.specs.declared.entries.Actor.TheVariants.{Env, Machine, Act}
 use Rattle.bus_semantics.specs.declared.entries.Deed.{Deed}
 use Rattle.bus_semantics.specs.declared.entries.Deed.TheVariants as deed
-use Rattle.bus_semantics.specs.Rest.{plain_key}
-use Rattle.bus_semantics.specs.Wanted.{to_start, wanted_by}
 use Rattle.client_server.specs.declared.point.Point.{Point}
 use Rattle.client_server.specs.declared.point.Request.{Request}
 use Rattle.client_server.specs.declared.point.Stage.{Stage}
 use Rattle.client_server.specs.declared.point.Stage.TheVariants.{Idle, Started}
 use Rattle.client_server.specs.Kept as calls
 use Rattle.client_server.specs.Points.{new_point, outcome_in, value_asked}
-use Rattle.object_kinds.specs.Kinds.{StartsByFlag, OthersWakeNothing}
-use Rattle.object_kinds.specs.Flags.{given}
-use Rattle.object_kinds.specs.Layout.{place}
+use Rattle.object_kinds.specs.Common.{StartsByFlag, OthersWakeNothing, given, place}
 use Rattle.object_kinds.proofs.Options.{given_some, given_none, then_some, mapped_some}
 use Rattle.server_objects.specs.Kept.{Kept, awaited_at, is_due_at, is_returned_at, has_next, may_start}
 use Rattle.server_objects.specs.Leading.{is_outcome, is_result, own_place, started_server, started_return, lead_of_start, lead_of_server, with_served, lead, wakes}

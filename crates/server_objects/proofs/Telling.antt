@@ -1,20 +1,15 @@
 -- What an Ask or a Return tells is exactly what it made pending.
 use Rattle.std.proofs.Common.{◌≡◌, ℕ, zero, suc, Bool, true, false, ◌==◌, if◌then◌else◌, refl, sym, ◌∙◌, ap, subst, arith, List, [], ◌∷◌, ◌++◌, get_or, set, Option, Some, None, ◌⊎◌, inl, inr}
 use Rattle.std.specs.Prelude.{option_and_then}
-use Rattle.std.specs.List.{Contains, slice_get}
-use Rattle.std.proofs.lemmas.Bool.{cases_eq, eq-eqb, eqb-true, false≢true}
-use Rattle.std.proofs.lemmas.List.{append-nil, get_or-set_other}
+use Rattle.bus_semantics.specs.Common.{Contains, slice_get, cases_eq, eq-eqb, eqb-true, false≢true, append-nil, get_or-set_other, same_Some, Value}
 use Rattle.std.proofs.lemmas.List.Elements.{Contains-push, Contains-append_left, Contains-append_right, Contains-append_cases}
-use Rattle.std.proofs.lemmas.Option.{same_Some}
-use Rattle.rte_value.specs.declared.value.Value.{Value}
 use Rattle.bus_semantics.specs.declared.entries.Deed.{Deed}
 use Rattle.bus_semantics.specs.declared.entries.Deed.TheVariants as deed
 use Rattle.client_server.specs.declared.point.Point.{Point}
 use Rattle.client_server.specs.declared.point.Stage.TheVariants.{Asked, Returned}
 use Rattle.client_server.specs.Kept as calls
 use Rattle.client_server.specs.Points.{new_point}
-use Rattle.object_kinds.specs.Layout.{place}
-use Rattle.object_kinds.specs.Rising.{is_rising}
+use Rattle.object_kinds.specs.Common.{place, is_rising}
 use Rattle.object_kinds.proofs.Options.{clash, then_some}
 use Rattle.object_kinds.proofs.Placing.{place_at}
 use Rattle.object_kinds.proofs.Rising.{place_here}

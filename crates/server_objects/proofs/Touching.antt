@@ -5,10 +5,7 @@ use Rattle.std.specs.Prelude.{Option}
 use Rattle.bus_semantics.specs.declared.script.Mapping.{Mapping}
 use Rattle.bus_semantics.specs.declared.entries.Actor.{Actor}
 use Rattle.bus_semantics.specs.declared.entries.Deed.{Deed}
-use Rattle.bus_semantics.specs.Plan.{Plan}
-use Rattle.bus_semantics.specs.Objects.{first_server, touches}
-use Rattle.bus_semantics.specs.Locality.{is_proper}
-use Rattle.bus_semantics.specs.Sound.{IsSound}
+use Rattle.bus_semantics.specs.Common.{Plan, first_server, touches, is_proper, IsSound}
 use Rattle.object_kinds.proofs.Classes.{On, touching_on}
 use Rattle.object_kinds.proofs.Numbers.{a_server}
 use Rattle.object_kinds.proofs.Proper.{noting}

@@ -1,32 +1,21 @@
 -- What the code of a server needs, and what its calls made, in the words of contracts.
 use Rattle.std.proofs.Common.{◌≡◌, ◌<◌, ◌≤◌, ℕ, zero, suc, Bool, true, false, ◌==◌, if◌then◌else◌, refl, sym, ◌∙◌, ap, subst, arith, List, [], ◌∷◌, ◌++◌, length, get_or, set, take, Option, Some, None}
 use Rattle.std.specs.Prelude.{All, IfSome, Vec, map, option_and_then, slice_index_or, unwrap_or}
-use Rattle.std.specs.Global.{Global}
-use Rattle.std.specs.Option.{option_map_or}
-use Rattle.std.proofs.lemmas.Bool.{eq-eqb}
+use Rattle.bus_semantics.specs.Common.{Global, option_map_or, eq-eqb, slice_get-get_or, Plan, kind_of, server_of, slice_get, get_or-set_same, Value, same_number}
 use Rattle.std.proofs.lemmas.List.Elements.{All-map}
-use Rattle.std.proofs.lemmas.Option.{slice_get-get_or}
 use Rattle.bus_semantics.specs.declared.plan.EventKind.{EventKind}
 use Rattle.bus_semantics.specs.declared.plan.EventKind.TheVariants.{Invoked}
-use Rattle.bus_semantics.specs.Plan.{Plan, kind_of, server_of}
-use Rattle.object_kinds.specs.Gathered.{listed_at}
+use Rattle.object_kinds.specs.Common.{listed_at, given, events_of, place, is_rising}
 use Rattle.object_kinds.proofs.Events.{events_all}
 use Rattle.server_objects.specs.Layout.{points_of, returns_for, point_in, awaited_by, event_in}
 use Rattle.server_objects.specs.Plans.{AreJoined}
 use Rattle.server_objects.proofs.Facts.{same_option}
 use Rattle.server_objects.proofs.Next.{returning, point_placed}
-use Rattle.std.specs.List.{slice_get}
-use Rattle.std.proofs.lemmas.List.{get_or-set_same}
-use Rattle.rte_value.specs.declared.value.Value.{Value}
-use Rattle.rte_value.specs.Values.{same_number}
 use Rattle.bus_semantics.specs.declared.entries.Deed.TheVariants as deed
 use Rattle.client_server.specs.declared.point.Point.{Point}
 use Rattle.client_server.specs.declared.point.Stage.TheVariants.{Returned}
 use Rattle.client_server.specs.Kept as calls
 use Rattle.client_server.specs.Points.{is_started, new_point}
-use Rattle.object_kinds.specs.Flags.{given}
-use Rattle.object_kinds.specs.Layout.{events_of, place}
-use Rattle.object_kinds.specs.Rising.{is_rising}
 use Rattle.object_kinds.proofs.Placing.{place_none, place_within}
 use Rattle.server_objects.specs.Acting.{Tells, IsAskedAt, ReturnLeads}
 use Rattle.server_objects.specs.Kept.{Kept, ServerState, awaiting, awaited_at, has_next, told_where}

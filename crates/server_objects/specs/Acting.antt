@@ -1,25 +1,16 @@
 -- What the calls of a server answer, each for its own wish: the entry by which what was kept leads on, or that no deed of the wish leads
 -- anywhere.
 use Rattle.std.specs.Prelude.{◌≡◌, ℕ, ◌<◌, ◌≤◌, ◌+◌, List, length, Bool, true, false, Option, Some, None, All, IfSome, Vec, is_some, slice_get}
-use Rattle.std.specs.Global.{Global}
-use Rattle.std.specs.List.{Contains}
-use Rattle.rte_value.specs.declared.value.Value.{Value}
-use Rattle.rte_value.specs.Values.{words_of}
+use Rattle.bus_semantics.specs.Common.{Global, Contains, Value, words_of, Plan, kind_of, answer_fits, start_fits, Wanted, to_start, wanted_by, plain_key}
 use Rattle.bus_semantics.specs.declared.entries.Actor.{Actor}
 use Rattle.bus_semantics.specs.declared.entries.Actor.TheVariants.{Act}
 use Rattle.bus_semantics.specs.declared.entries.Deed.{Deed}
 use Rattle.bus_semantics.specs.declared.entries.Entry.{Entry}
 use Rattle.bus_semantics.specs.declared.entries.Deed.TheVariants as deed
-use Rattle.bus_semantics.specs.Plan.{Plan, kind_of}
-use Rattle.bus_semantics.specs.Fitting.{answer_fits, start_fits}
-use Rattle.bus_semantics.specs.Wanted.{Wanted, to_start, wanted_by}
-use Rattle.bus_semantics.specs.Rest.{plain_key}
 use Rattle.client_server.specs.declared.point.Outcome.{Outcome}
 use Rattle.client_server.specs.Kept.{after_ask, answer_to_ask, point_at}
 use Rattle.client_server.specs.Points.{is_started}
-use Rattle.object_kinds.specs.Gathered.{listed_at}
-use Rattle.object_kinds.specs.Layout.{place}
-use Rattle.object_kinds.specs.Rising.{is_rising}
+use Rattle.object_kinds.specs.Common.{listed_at, place, is_rising}
 use Rattle.object_kinds.specs.declared.acted.Acted.{Acted}
 use Rattle.object_kinds.specs.declared.acted.Acted.TheVariants.{Done, NotYet}
 use Rattle.object_kinds.specs.declared.acted.Shown.{Shown}

@@ -1,14 +1,8 @@
 -- What stands behind an answer: the Return of the point's own request (SWS_RTE: Rte_Call, Rte_Result). Entries stand the newest first.
 use Rattle.std.specs.Prelude.{◌≡◌, ℕ, ℤ, List, ◌∷◌, ◌++◌, Bool, true, not, Some, is_none}
-use Rattle.std.specs.List.{list_all}
-use Rattle.rte_value.specs.declared.kinds.ActKey.{ActKey}
-use Rattle.rte_value.specs.declared.value.Value.{Value}
-use Rattle.rte_value.specs.Values.{words_of}
+use Rattle.bus_semantics.specs.Common.{list_all, ActKey, Value, words_of, Noted, Past, is_request_at, serves_by}
 use Rattle.bus_semantics.specs.declared.entries.Actor.TheVariants.{Act}
 use Rattle.bus_semantics.specs.declared.entries.Deed.TheVariants as deed
-use Rattle.bus_semantics.specs.History.{Noted, Past}
-use Rattle.bus_semantics.specs.Calls.{is_request_at}
-use Rattle.bus_semantics.specs.Matching.{serves_by}
 use Rattle.server_objects.specs.Standing.{last_asked}
 
 -- no request of the point is among these entries

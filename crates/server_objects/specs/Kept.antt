@@ -1,7 +1,6 @@
 -- What a server keeps, as plain data (SWS_RTE: Rte_Call, Rte_Result, OperationInvokedEvent, AsynchronousServerCallReturnsEvent).
 use Rattle.std.specs.Prelude.{ℕ, List, [], ◌∷◌, map, length, Bool, true, false, ◌&&◌, ◌==◌, if◌then◌else◌, Option, Some, None, is_some, slice_get}
-use Rattle.std.specs.Option.{option_and_then}
-use Rattle.bus_semantics.specs.Plan.{Plan, queue_of}
+use Rattle.bus_semantics.specs.Common.{option_and_then, Plan, queue_of}
 use Rattle.client_server.specs.Kept as calls
 use Rattle.client_server.specs.Points.{outcome_in}
 use Rattle.object_kinds.specs.Layout.{events_of, place}

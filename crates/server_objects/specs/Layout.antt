@@ -1,11 +1,9 @@
 -- What of a plan belongs to a server (SWS_RTE: Rte_Call, OperationInvokedEvent, AsynchronousServerCallReturnsEvent).
 use Rattle.std.specs.Prelude.{◌≡◌, ◌<◌, ◌≤◌, ◌-◌, ◌^◌, ℕ, List, length, filter, Bool, false, Some, None, unwrap_or}
-use Rattle.rte_value.specs.Values.{same_number}
+use Rattle.bus_semantics.specs.Common.{same_number, Plan, Runnable, look, server_of, kind_of, runnable_of_event, positions, first_server, first_area}
 use Rattle.bus_semantics.specs.declared.plan.ServerPlan.{ServerPlan}
 use Rattle.bus_semantics.specs.declared.plan.EventKind.{EventKind}
 use Rattle.bus_semantics.specs.declared.plan.EventKind.TheVariants.{Invoked, Returns}
-use Rattle.bus_semantics.specs.Plan.{Plan, Runnable, look, server_of, kind_of, runnable_of_event, positions}
-use Rattle.bus_semantics.specs.Objects.{first_server, first_area}
 use Rattle.object_kinds.specs.Layout.{place}
 
 -- ---- the server

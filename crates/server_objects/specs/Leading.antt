@@ -2,23 +2,18 @@
 -- Rte_Result, OperationInvokedEvent, AsynchronousServerCallReturnsEvent). It is a function of plain data, and knows no history. The entry
 -- touches the server.
 use Rattle.std.specs.Prelude.{ℕ, List, [], Bool, true, false, ◌&&◌, ◌==◌, if◌then◌else◌, Option, Some, None, is_none, option_map, slice_get}
-use Rattle.std.specs.Option.{option_and_then}
-use Rattle.rte_value.specs.declared.value.Value.{Value}
-use Rattle.rte_value.specs.Values.{words_of, same_words, same_number}
+use Rattle.bus_semantics.specs.Common.{option_and_then, Value, words_of, same_words, same_number, Noted, Wanted, to_start, to_hear}
 use Rattle.bus_semantics.specs.declared.entries.Actor.{Actor}
 use Rattle.bus_semantics.specs.declared.entries.Actor.TheVariants.{Act}
 use Rattle.bus_semantics.specs.declared.entries.Deed.{Deed}
 use Rattle.bus_semantics.specs.declared.entries.Deed.TheVariants as deed
-use Rattle.bus_semantics.specs.History.{Noted}
-use Rattle.bus_semantics.specs.Wanted.{Wanted, to_start, to_hear}
 use Rattle.client_server.specs.declared.point.Outcome.{Outcome}
 use Rattle.client_server.specs.declared.point.Request.{Request}
 use Rattle.client_server.specs.Points.{is_started, outcome_in, value_asked}
 use Rattle.client_server.specs.Kept as calls
 use Rattle.object_kinds.specs.declared.acted.Shown.{Shown}
 use Rattle.object_kinds.specs.declared.acted.Shown.TheVariants.{NotDue, NotReturned, Unmatched}
-use Rattle.object_kinds.specs.Flags.{given}
-use Rattle.object_kinds.specs.Layout.{place}
+use Rattle.object_kinds.specs.Common.{given, place}
 use Rattle.server_objects.specs.Kept.{Kept, ServerState, awaited_at}
 
 -- ---- calls. The point stands at this place

@@ -1,16 +1,11 @@
 -- What a server keeps, as the definitions give it from a past of the server.
-use Rattle.std.specs.Prelude.{◌≡◌, ℕ, zero, ℤ, List, [], ◌∷◌, ◌+◌, map, length, drop, Bool, true, false, not, ◌==◌, nat_lt, if◌then◌else◌, Option, Some, None, is_some, option_map, slice_get, slice_index_or}
-use Rattle.rte_value.specs.declared.kinds.ActKey.{ActKey}
-use Rattle.rte_value.specs.declared.value.Value.{Value}
-use Rattle.rte_value.specs.Values.{words_of, same_number}
+use Rattle.std.specs.Prelude.{◌≡◌, ℕ, zero, ℤ, List, [], ◌∷◌, ◌+◌, map, length, drop, Bool, true, false, not, ◌==◌, nat_lt, if◌then◌else◌, Option, Some, None, is_some, option_map, slice_get}
+use Rattle.std.specs.Prelude.{slice_index_or}
+use Rattle.bus_semantics.specs.Common.{ActKey, Value, words_of, same_number, Plan, queue_of, Noted, Past, newest, is_outstanding, answer_to, requests_of, starts_of, serves, follows_last}
+use Rattle.bus_semantics.specs.Common.{returns_to, is_start_by_return_of, is_open, serves_by, serves_any}
 use Rattle.bus_semantics.specs.declared.entries.Actor.TheVariants.{Act}
 use Rattle.bus_semantics.specs.declared.entries.Deed.{Deed}
 use Rattle.bus_semantics.specs.declared.entries.Deed.TheVariants as deed
-use Rattle.bus_semantics.specs.Plan.{Plan, queue_of}
-use Rattle.bus_semantics.specs.History.{Noted, Past, newest}
-use Rattle.bus_semantics.specs.Calls.{is_outstanding, answer_to, requests_of, starts_of, serves}
-use Rattle.bus_semantics.specs.Due.{follows_last, returns_to, is_start_by_return_of}
-use Rattle.bus_semantics.specs.Matching.{is_open, serves_by, serves_any}
 use Rattle.client_server.specs.declared.point.Outcome.{Outcome}
 use Rattle.client_server.specs.declared.point.Point.{Point}
 use Rattle.client_server.specs.Asked.{AreAsked}

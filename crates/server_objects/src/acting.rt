@@ -1,10 +1,8 @@
 //! The entries of a server.
 
 ghost use Rattle.std.specs.Prelude.{◌≡◌, ◌<◌, ◌≤◌, ◌+◌, ◌++◌, [], ◌∷◌, IsSome, None, length, true};
-ghost use Rattle.std.specs.Vec.{vec_capacity};
-ghost use Rattle.rte_value.specs.Values.{words_of};
+ghost use Rattle.bus_semantics.specs.Common.{vec_capacity, words_of, to_ask, to_hear, to_take_result, to_start, to_return};
 ghost use Rattle.bus_semantics.specs.declared.entries.Actor.TheVariants.{Act};
-ghost use Rattle.bus_semantics.specs.Wanted.{to_ask, to_hear, to_take_result, to_start, to_return};
 ghost use Rattle.server_objects.specs.Acting.{IsActed, IsAskedAt, IsReturned, IsStart, IsTaken};
 ghost use Rattle.server_objects.specs.Kept.{awaiting, has_next, told_where};
 

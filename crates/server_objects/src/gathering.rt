@@ -1,10 +1,8 @@
 //! The points and return events of each server.
 
 ghost use Rattle.std.specs.Prelude.{◌≡◌, ℕ, ◌<◌, ◌^◌, ◌++◌, ◌==◌, [], ◌∷◌, length, Some, IfOk, IfSome, OnOk, if◌then◌else◌};
-ghost use Rattle.rte_value.specs.Values.{same_number};
-ghost use Rattle.bus_semantics.specs.Plan.{plan_of, kind_of};
-ghost use Rattle.object_kinds.specs.Gathered.{listed_at};
-ghost use Rattle.object_kinds.specs.Layout.{events_of};
+ghost use Rattle.bus_semantics.specs.Common.{same_number, plan_of, kind_of};
+ghost use Rattle.object_kinds.specs.Common.{listed_at, events_of};
 ghost use Rattle.server_objects.specs.Plans.{AreJoined};
 ghost use Rattle.server_objects.specs.Layout.{points_of, returns_for};
 

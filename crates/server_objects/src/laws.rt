@@ -1,16 +1,10 @@
 //! Laws of servers.
 
 ghost use Rattle.std.specs.Prelude.{◌≡◌, ◌<◌, ◌≤◌, ◌+◌, ℕ, [], length, true, Option};
-ghost use Rattle.rte_value.specs.declared.value.Value.{Value};
-ghost use Rattle.rte_value.specs.Values.{words_of};
+ghost use Rattle.bus_semantics.specs.Common.{Value, words_of, Plan, Past, first_server, IsPastOf, Follows, IsSound};
 ghost use Rattle.bus_semantics.specs.declared.entries.Actor.{Actor};
 ghost use Rattle.bus_semantics.specs.declared.entries.Deed.TheVariants as deed;
 ghost use Rattle.bus_semantics.specs.declared.script.Mapping.{Mapping};
-ghost use Rattle.bus_semantics.specs.Plan.{Plan};
-ghost use Rattle.bus_semantics.specs.History.{Past};
-ghost use Rattle.bus_semantics.specs.Objects.{first_server};
-ghost use Rattle.bus_semantics.specs.Pasts.{IsPastOf, Follows};
-ghost use Rattle.bus_semantics.specs.Sound.{IsSound};
 ghost use Rattle.object_kinds.specs.Kinds.{LeadsFollow, LeadsKeep, MissesNothing, StartsByFlag, OthersWakeNothing};
 ghost use Rattle.server_objects.specs.Answered.{IsReturnOf};
 ghost use Rattle.server_objects.specs.Kept.{opening, may_start};

@@ -1,10 +1,8 @@
 //! A server of a plan, made.
 
 ghost use Rattle.std.specs.Prelude.{◌≡◌, ℕ, ◌<◌, ◌+◌, All, IfOk, length, map};
-ghost use Rattle.bus_semantics.specs.Plan.{plan_of, queue_of};
-ghost use Rattle.bus_semantics.specs.Objects.{first_server};
-ghost use Rattle.object_kinds.specs.Gathered.{listed_at};
-ghost use Rattle.object_kinds.specs.Layout.{events_of};
+ghost use Rattle.bus_semantics.specs.Common.{plan_of, queue_of, first_server};
+ghost use Rattle.object_kinds.specs.Common.{listed_at, events_of};
 ghost use Rattle.server_objects.specs.Kept.{awaiting, opening};
 ghost use Rattle.server_objects.specs.Layout.{awaited_by, event_in, points_of, returns_for, IsServer};
 ghost use Rattle.server_objects.specs.Plans.{IsOfPlan};

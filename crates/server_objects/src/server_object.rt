@@ -1,14 +1,11 @@
 //! A server with its points and their return events.
 
 ghost use Rattle.std.specs.Prelude.{◌≡◌, ℕ, ◌<◌, length, true, false, Some, IfSome};
-ghost use Rattle.std.specs.List.{Contains};
+ghost use Rattle.bus_semantics.specs.Common.{Contains, Plan, wanted_of};
 ghost use Rattle.bus_semantics.specs.declared.entries.Entry.{Entry};
-ghost use Rattle.bus_semantics.specs.Plan.{Plan};
-ghost use Rattle.bus_semantics.specs.Wanted.{wanted_of};
 ghost use Rattle.object_kinds.specs.declared.acted.Shown.{Shown};
 ghost use Rattle.object_kinds.specs.declared.acted.Acted.TheVariants.{Done, NotYet};
-ghost use Rattle.object_kinds.specs.Kinds.{IsAnswerOf};
-ghost use Rattle.object_kinds.specs.Layout.{place};
+ghost use Rattle.object_kinds.specs.Common.{IsAnswerOf, place};
 ghost use Rattle.server_objects.specs.Acting.{IsActed};
 ghost use Rattle.server_objects.specs.Kept.{awaited_at, has_next, may_hear, may_start};
 ghost use Rattle.server_objects.specs.Leading.{lead, own_place, serving_of, why_held, wakes};

@@ -1,5 +1,6 @@
 -- What is kept is the beginning of a good frame, and never all of one.
-use Rattle.std.proofs.Common.{◌≡◌, ◌<◌, ℕ, zero, suc, ◌*◌, ◌-◌, ◌/◌, ◌%◌, ◌^◌, ℤ, List, [], ◌∷◌, ◌++◌, length, drop, true, Option, Some, slice_get, refl, sym, ap, ◌∙◌, arith, subst, append_assoc, length-append, replicate}
+use Rattle.std.proofs.Common.{◌≡◌, ◌<◌, ℕ, zero, suc, ◌*◌, ◌-◌, ◌/◌, ◌%◌, ◌^◌, ℤ, List, [], ◌∷◌, ◌++◌, length, drop, true, Option, Some, slice_get, refl, sym, ap, ◌∙◌, arith, subst}
+use Rattle.std.proofs.Common.{append_assoc, length-append, replicate}
 use Rattle.std.proofs.lemmas.Bool.{and_from, and_parts, eq-eqb}
 use Rattle.std.proofs.lemmas.Grind.{flat_map-append}
 use Rattle.std.proofs.lemmas.List.{append-nil, length-drop, length-replicate, take-append-drop}
@@ -8,16 +9,11 @@ use Rattle.std.specs.Int.RustNames.{int_le}
 use Rattle.std.specs.List.{flat_map, list_all}
 use Rattle.std.specs.Option.{unwrap_or}
 use Rattle.rte_value.specs.declared.kinds.Limits.{Limits}
-use Rattle.signal_link.specs.declared.header.Header.{Header}
+use Rattle.signal_link.specs.Common.{Header, LinkElem, Part, Payload, frame, header, word_bytes, AreLinks, is_link, is_within, IsLinked, IsPart, begun_of, head_bytes, header_bytes}
+use Rattle.signal_link.specs.Common.{payload_bytes, BeginsWithFrame, IsBeginning, IsGood}
 use Rattle.signal_link.specs.declared.header.Header.TheVariants.{Nothing, Mark, High, Number}
-use Rattle.signal_link.specs.declared.link_elem.LinkElem.{LinkElem}
-use Rattle.signal_link.specs.declared.part.Part.{Part}
 use Rattle.signal_link.specs.declared.part.Part.TheVariants.{InHeader, InWords, Bad}
-use Rattle.signal_link.specs.declared.payload.Payload.{Payload}
-use Rattle.signal_link.specs.Frames.{frame, header, word_bytes}
-use Rattle.signal_link.specs.Links.{AreLinks, is_link, is_within}
-use Rattle.signal_link.specs.Parts.{IsHeader, IsLinked, IsPart, begun_of, head_bytes, header_bytes, payload_bytes}
-use Rattle.signal_link.specs.Unframing.{BeginsWithFrame, IsBeginning, IsGood}
+use Rattle.signal_link.specs.Parts.{IsHeader}
 use Rattle.signal_link.proofs.Bytes.{length-word_bytes}
 use Rattle.signal_link.proofs.Frames.{length-frame, no_frame_in_a_cut_one}
 use Rattle.signal_link.proofs.Heads.{le_self}

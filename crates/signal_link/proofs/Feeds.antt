@@ -1,14 +1,10 @@
 -- What a feed answers, by the bytes at which it ends.
-use Rattle.std.proofs.Common.{◌≡◌, ◌≤◌, ◌<◌, ℕ, ◌+◌, List, [], ◌∷◌, ◌++◌, length, take, drop, get_or, Option, Some, None, is_none, false, true≢false, refl, sym, ap, ◌∙◌, ◌⊎◌, inl, inr, arith, subst, append_assoc, length-append}
+use Rattle.std.proofs.Common.{◌≡◌, ◌≤◌, ◌<◌, ℕ, ◌+◌, List, [], ◌∷◌, ◌++◌, length, take, drop, get_or, Option, Some, None, is_none, false, true≢false, refl, sym, ap, ◌∙◌, ◌⊎◌, inl, inr}
+use Rattle.std.proofs.Common.{arith, subst, append_assoc, length-append}
 use Rattle.std.proofs.lemmas.List.{length-take-le, take-append-drop, take_more}
 use Rattle.rte_value.specs.declared.value.Value.{Value}
 use Rattle.rte_value.specs.Values.{words_of}
-use Rattle.signal_link.specs.declared.link_elem.LinkElem.{LinkElem}
-use Rattle.signal_link.specs.declared.unframer.Found.{Found}
-use Rattle.signal_link.specs.declared.unframer.Found.TheVariants.{Whole, More, BadFrame}
-use Rattle.signal_link.specs.Feeding.{Feed, IsFed}
-use Rattle.signal_link.specs.Frames.{frame}
-use Rattle.signal_link.specs.Unframing.{BeginsWithFrame, IsBeginning, IsGood, Kept}
+use Rattle.signal_link.specs.Common.{LinkElem, Found, Whole, More, BadFrame, Feed, IsFed, frame, BeginsWithFrame, IsBeginning, IsGood, Kept}
 use Rattle.signal_link.proofs.Beginnings.{IsCut, earlier, no_frame_in_a_cut}
 use Rattle.signal_link.proofs.Prefixes.{shorter}
 

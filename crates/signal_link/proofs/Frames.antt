@@ -1,5 +1,6 @@
 -- No good frame begins another, and what a good frame says can be read from its bytes.
-use Rattle.std.proofs.Common.{◌≡◌, ◌<◌, ℕ, ◌+◌, ◌*◌, ◌/◌, ◌%◌, ◌^◌, ℤ, List, [], ◌∷◌, ◌++◌, length, take, drop, get_or, true, Option, Some, slice_get, refl, sym, ap, ◌∙◌, arith, append_assoc, length-append}
+use Rattle.std.proofs.Common.{◌≡◌, ◌<◌, ℕ, ◌+◌, ◌*◌, ◌/◌, ◌%◌, ◌^◌, ℤ, List, [], ◌∷◌, ◌++◌, length, take, drop, get_or, true, Option, Some, slice_get, refl, sym, ap, ◌∙◌, arith}
+use Rattle.std.proofs.Common.{append_assoc, length-append}
 use Rattle.std.proofs.lemmas.Bool.{and_parts}
 use Rattle.std.proofs.lemmas.List.{append-nil, drop_at, take_at}
 use Rattle.std.proofs.lemmas.Int.{to_z-of_z}
@@ -8,9 +9,7 @@ use Rattle.std.specs.Int.RustNames.{FitsSigned, int_le}
 use Rattle.std.specs.List.{flat_map, list_all}
 use Rattle.std.specs.Option.{unwrap_or}
 use Rattle.rte_value.specs.declared.kinds.Limits.{Limits}
-use Rattle.signal_link.specs.declared.link_elem.LinkElem.{LinkElem}
-use Rattle.signal_link.specs.Frames.{frame, word_bytes}
-use Rattle.signal_link.specs.Links.{is_within}
+use Rattle.signal_link.specs.Common.{LinkElem, frame, word_bytes, is_within}
 use Rattle.signal_link.proofs.Bytes.{bytes_are_one, length-word_bytes}
 use Rattle.signal_link.proofs.Heads.{fits_between, le_of, unsigned_fits}
 

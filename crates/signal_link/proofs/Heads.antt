@@ -7,9 +7,7 @@ use Rattle.std.proofs.lemmas.Int.{ints, of_z-to_z, to_z-of_z}
 use Rattle.std.specs.Int.{w64, cast_signed, cast_unsigned}
 use Rattle.std.specs.Int.RustNames.{FitsSigned, int_le}
 use Rattle.rte_value.specs.declared.kinds.Limits.{Limits}
-use Rattle.signal_link.specs.declared.word_head.WordHead.{WordHead}
-use Rattle.signal_link.specs.Frames.{word_bytes}
-use Rattle.signal_link.specs.Parts.{IsHead, IsOpen, head_bytes}
+use Rattle.signal_link.specs.Common.{WordHead, word_bytes, IsHead, IsOpen, head_bytes}
 use Rattle.signal_link.proofs.Bytes.{bytes_are_one, take-word_bytes}
 
 -- the number of the least word and of the greatest one, whose first bytes are these

@@ -13,13 +13,9 @@ use Rattle.byteorder.specs.Numbers.{length-bytes_high_first}
 use Rattle.rte_value.specs.declared.kinds.Limits.{Limits}
 use Rattle.rte_value.specs.declared.value.Value.{Value}
 use Rattle.rte_value.specs.Values.{words_of}
-use Rattle.signal_link.specs.declared.link_elem.LinkElem.{LinkElem}
-use Rattle.signal_link.specs.declared.payload.Payload.{Payload}
-use Rattle.signal_link.specs.declared.word_head.WordHead.{WordHead}
-use Rattle.signal_link.specs.Frames.{frame, header, word_bytes}
-use Rattle.signal_link.specs.Links.{is_link, is_within}
-use Rattle.signal_link.specs.Parts.{IsHead, IsLinked, IsOpen, IsPayload, IsPushed, IsValueOf, empty_head, head_bytes, payload_bytes}
-use Rattle.signal_link.specs.Unframing.{IsBeginning, IsGood}
+use Rattle.signal_link.specs.Common.{LinkElem, Payload, WordHead, frame, header, word_bytes, is_link, is_within, IsHead, IsLinked, IsOpen, IsPushed, head_bytes, payload_bytes, IsBeginning}
+use Rattle.signal_link.specs.Common.{IsGood}
+use Rattle.signal_link.specs.Parts.{IsPayload, IsValueOf, empty_head}
 use Rattle.signal_link.proofs.Bytes.{bytes_pushed, length-word_bytes}
 use Rattle.signal_link.proofs.Frames.{Peeled, peeled, same_link, same_number}
 use Rattle.signal_link.proofs.Heads.{le_self}

@@ -3,13 +3,8 @@ use Rattle.std.proofs.Common.{◌≡◌, ◌≤◌, ◌<◌, ℕ, ◌+◌, ◌-�
 use Rattle.std.proofs.lemmas.List.{append-nil, length-take-le, take-append-drop, take_at}
 use Rattle.rte_value.specs.declared.value.Value.{Value}
 use Rattle.rte_value.specs.Values.{words_of}
-use Rattle.signal_link.specs.declared.link_elem.LinkElem.{LinkElem}
-use Rattle.signal_link.specs.declared.unframer.Found.{Found}
-use Rattle.signal_link.specs.declared.unframer.Found.TheVariants.{Whole, More, BadFrame}
+use Rattle.signal_link.specs.Common.{LinkElem, Found, Whole, More, BadFrame, frame, AreOfWords, Finds, IsBeginning, IsGood, Kept, Shows, after_feed, fresh}
 use Rattle.signal_link.specs.Carrying.{IsCarried}
-use Rattle.signal_link.specs.Frames.{frame}
-use Rattle.signal_link.specs.Links.{AreOfWords}
-use Rattle.signal_link.specs.Unframing.{Finds, IsBeginning, IsGood, Kept, Shows, after_feed, fresh}
 use Rattle.signal_link.specs.Ways.{IsGiven, IsTaken}
 use Rattle.signal_link.proofs.Frames.{length-frame}
 use Rattle.signal_link.proofs.Streams.{same_frame}

@@ -1,5 +1,6 @@
 -- The values of a stream of frames, however it is cut.
-use Rattle.std.proofs.Common.{◌≡◌, ◌≤◌, ◌<◌, ℕ, zero, suc, ◌+◌, ◌-◌, ℤ, pos, negsuc, List, [], ◌∷◌, ◌++◌, length, take, drop, get_or, true, ◌&&◌, ◌==◌, Option, Some, None, slice_get, refl, sym, ap, ◌∙◌, ◌⊎◌, inl, inr, arith, subst, append_assoc, length-append}
+use Rattle.std.proofs.Common.{◌≡◌, ◌≤◌, ◌<◌, ℕ, zero, suc, ◌+◌, ◌-◌, ℤ, pos, negsuc, List, [], ◌∷◌, ◌++◌, length, take, drop, get_or, true, ◌&&◌, ◌==◌, Option, Some, None, slice_get, refl}
+use Rattle.std.proofs.Common.{sym, ap, ◌∙◌, ◌⊎◌, inl, inr, arith, subst, append_assoc, length-append}
 use Rattle.std.proofs.lemmas.Bool.{and_parts}
 use Rattle.std.proofs.lemmas.Grind.{flat_map-append}
 use Rattle.std.proofs.Math.Seq.{take-append-add}
@@ -11,13 +12,12 @@ use Rattle.std.specs.Option.{unwrap_or}
 use Rattle.rte_value.specs.EqualValues.{Value-by_words}
 use Rattle.rte_value.specs.Values.{words_of}
 use Rattle.signal_link.specs.declared.header.Header.TheVariants.{Nothing}
-use Rattle.signal_link.specs.declared.link_elem.LinkElem.{LinkElem}
-use Rattle.signal_link.specs.declared.unframer.Found.{Found}
-use Rattle.signal_link.specs.declared.unframer.Found.TheVariants.{Whole, More, BadFrame}
-use Rattle.signal_link.specs.Feeding.{AreFed, Feed, IsFed, all_given, all_used}
-use Rattle.signal_link.specs.Frames.{Pair, frame, frames, word_bytes}
-use Rattle.signal_link.specs.Links.{AreLinks, AreOfWords, is_within, is_word}
-use Rattle.signal_link.specs.Unframing.{BeginsWithFrame, Finds, IsBeginning, IsFrames, IsGood, Keeps, Kept, Shows, StandsFor, after_feed, fresh, given, used_by}
+use Rattle.signal_link.specs.Common.{LinkElem, Found, Whole, More, BadFrame, Feed, IsFed, frame, word_bytes, AreLinks, AreOfWords, is_within, BeginsWithFrame, Finds, IsBeginning, IsGood}
+use Rattle.signal_link.specs.Common.{Kept, Shows, StandsFor, after_feed, fresh, given}
+use Rattle.signal_link.specs.Feeding.{AreFed, all_given, all_used}
+use Rattle.signal_link.specs.Frames.{Pair, frames}
+use Rattle.signal_link.specs.Links.{is_word}
+use Rattle.signal_link.specs.Unframing.{IsFrames, Keeps, used_by}
 use Rattle.signal_link.proofs.Beginnings.{cut_header, earlier}
 use Rattle.signal_link.proofs.Feeds.{kept_as}
 use Rattle.signal_link.proofs.Heads.{fits_between, le_of}

@@ -6,3 +6,4 @@ pub mod Carrying
 pub mod Feeding
 pub mod Ways
 pub mod Pipes
+pub mod Common

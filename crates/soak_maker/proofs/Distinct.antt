@@ -1,11 +1,7 @@
 -- Rule 4: no name stands at an earlier place of its list.
-use Rattle.std.proofs.Common.{◌≡◌, ◌<◌, ◌≤◌, ◌+◌, ◌%◌, ℕ, zero, suc, Bool, true, false, not, cond, ◌||◌, ltb, nat_eq, List, [], ◌∷◌, ◌++◌, length, bytes_eq, codes, Some, refl, sym, ap, subst, ◌∙◌, append_assoc, append-nil, arith, eqb-true}
-use Rattle.std.specs.Fmt.{digits}
-use Rattle.std.specs.List.{list_any, slice_get}
-use Rattle.std.specs.Option.{option_map}
-use Rattle.std.proofs.lemmas.Bool.{false_from_ne_true, ltb-true}
-use Rattle.std.proofs.lemmas.List.{length-append}
-use Rattle.std.proofs.lemmas.Option.{slice_get-map}
+use Rattle.std.proofs.Common.{◌≡◌, ◌<◌, ◌≤◌, ◌+◌, ◌%◌, ℕ, zero, suc, Bool, true, false, not, cond, ◌||◌, ltb, nat_eq, List, [], ◌∷◌, ◌++◌, length, bytes_eq, codes, Some, refl, sym, ap}
+use Rattle.std.proofs.Common.{subst, ◌∙◌, append_assoc, append-nil, arith, eqb-true}
+use Rattle.bus_semantics.specs.Common.{digits, list_any, slice_get, option_map, false_from_ne_true, ltb-true, length-append, slice_get-map}
 use Rattle.serde_json.proofs.OnLiterals.{serde_json_on_literals}
 use Rattle.declared_names.specs.FirstPlaces.{first_places, task_text}
 use Rattle.declared_names.specs.Names.{Names, position_in}

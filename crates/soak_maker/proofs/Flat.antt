@@ -1,31 +1,16 @@
 -- Rules 9 to 11, the instances, and what is joined.
-use Rattle.std.proofs.Common.{◌≡◌, ◌<◌, ◌≤◌, ◌+◌, ℕ, zero, suc, Bool, true, false, nat_eq, List, [], ◌∷◌, map, length, slice_get, codes, Option, Some, None, option_map, option_and_then, ◌⊎◌, inl, inr, ⊎_elim, refl, sym, ap, subst, subst₂, ◌∙◌, ◌&&◌, arith, bytes_eq, if◌then◌else◌, true≢false}
-use Rattle.std.specs.Option.{option_map_or}
-use Rattle.std.proofs.lemmas.Option.{none-some, same_Some}
-use Rattle.description_types.specs.declared.component.PortKind.{PortKind}
-use Rattle.description_types.specs.declared.component.PortKind.TheVariants.{Provided, Required}
-use Rattle.description_types.specs.declared.description.Connector.{Connector}
-use Rattle.description_types.specs.declared.description.Connector.TheVariants.{Assembly, Delegation}
-use Rattle.description_types.specs.declared.description.Description.{Description}
-use Rattle.description_types.specs.declared.description.InnerPort.{InnerPort}
-use Rattle.description_types.specs.declared.description.Prototype.{Prototype}
-use Rattle.description_types.specs.declared.description.PrototypeType.{PrototypeType}
+use Rattle.std.proofs.Common.{◌≡◌, ◌<◌, ◌≤◌, ◌+◌, ℕ, zero, suc, Bool, true, false, nat_eq, List, [], ◌∷◌, map, length, slice_get, codes, Option, Some, None, option_map, option_and_then, ◌⊎◌}
+use Rattle.std.proofs.Common.{inl, inr, ⊎_elim, refl, sym, ap, subst, subst₂, ◌∙◌, ◌&&◌, arith, bytes_eq, if◌then◌else◌, true≢false}
+use Rattle.bus_semantics.specs.Common.{option_map_or, none-some, same_Some}
+use Rattle.plan_definitions.specs.Common.{PortKind, Provided, Required, Connector, Assembly, Delegation, Description, InnerPort, Prototype, PrototypeType, End, Instance, Join, connectors_of}
+use Rattle.plan_definitions.specs.Common.{is_required, lets_join, IsBrokenConnector, IsRefusedAt, KeepsLimits, IsPastLimit, instances, instance_at, names_env, written, interface_at}
+use Rattle.plan_definitions.specs.Common.{IsSameName, ItemsJoin, Assembles, IsBelow, IsJoined, IsOutside, Stand, StandsJoin, as_inner, interface_below, stand_in, itself, further, Among}
+use Rattle.plan_definitions.specs.Common.{ContainsItself, prototypes_of, type_at, type_in, IsTooDeep, Place, places, places_below, places_of}
 use Rattle.description_types.specs.declared.description.PrototypeType.TheVariants as of
-use Rattle.description_types.specs.declared.flat.End.{End}
-use Rattle.description_types.specs.declared.flat.Instance.{Instance}
-use Rattle.description_types.specs.declared.flat.Join.{Join}
-use Rattle.description_types.specs.Connectors.{connectors_of, interface_of, is_provided, is_required, kind_of, lets_join, IsBrokenConnector}
-use Rattle.description_types.specs.Flattening.{IsRefusedAt, KeepsLimits}
-use Rattle.description_types.specs.Growing.{IsPastLimit}
-use Rattle.description_types.specs.Instances.{instances, instance_at, names_env, written}
-use Rattle.description_types.specs.Items.{interface_at, IsSameName, ItemsJoin}
-use Rattle.description_types.specs.Joined.{Assembles, IsBelow, IsJoined, IsOutside, Stand, StandsJoin, as_inner, interface_below, stand_in}
-use Rattle.description_types.specs.Joined.IsBelow.{itself, further}
-use Rattle.description_types.specs.Members.{Among}
-use Rattle.description_types.specs.Paths.{ContainsItself, prototypes_of, type_at, type_in}
-use Rattle.description_types.specs.Places.{IsTooDeep, Place, places, places_below, places_of}
+use Rattle.description_types.specs.Connectors.{interface_of, is_provided, kind_of}
 use Rattle.description_stages.proofs.Held.{Shared}
-use Rattle.soak_maker.proofs.Lists.{among_at, any_none, at_position, at_start, flat_three, get_first, get_second, get_third, length-three, three, three_at, two, two_at, length-two, among_first, among_second, among_take, few_apart, map_three_of, three_same}
+use Rattle.soak_maker.proofs.Lists.{among_at, any_none, at_position, at_start, flat_three, get_first, get_second, get_third, length-three, three, three_at, two, two_at, length-two}
+use Rattle.soak_maker.proofs.Lists.{among_first, among_second, among_take, few_apart, map_three_of, three_same}
 use Rattle.soak_maker.proofs.Soaked.{acc_name, c_name, inner, p_name, queue, service, soaked, typed}
 
 -- ---- options

@@ -1,10 +1,7 @@
 -- A description whose tree is that of `soak N` differs from it in nothing but in how its programs lie in memory.
 use Rattle.std.proofs.Common.{◌≡◌, ℕ, List, [], ◌∷◌, map, refl, sym, ap, ◌∙◌}
-use Rattle.std.specs.Arc.{arc_value}
-use Rattle.runnable_lang.specs.Trees.{program_tree}
-use Rattle.description_types.specs.declared.component.Component.{Component}
-use Rattle.description_types.specs.declared.component.Runnable.{Runnable}
-use Rattle.description_types.specs.declared.description.Description.{Description}
+use Rattle.bus_semantics.specs.Common.{arc_value, program_tree}
+use Rattle.plan_definitions.specs.Common.{Component, Runnable, Description}
 use Rattle.component_model.specs.Descriptions.{description_of}
 use Rattle.component_model.specs.Programs.{ComponentTree, RunnableTree, component_tree, runnable_tree}
 use Rattle.description_stages.proofs.Held.{Shared, running}

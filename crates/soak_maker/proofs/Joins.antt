@@ -1,23 +1,14 @@
 -- Rules 12 to 15: what connectors join may be joined.
-use Rattle.std.proofs.Common.{◌≡◌, ◌<◌, ◌+◌, ◌-◌, ℕ, Bool, true, false, not, cond, ◌&&◌, ◌||◌, nat_eq, List, [], ◌∷◌, map, filter, slice_get, codes, Option, Some, None, option_map, option_and_then, inl, inr, refl, sym, ap, subst, ◌∙◌, arith, if◌then◌else◌}
-use Rattle.std.specs.List.{list_any}
-use Rattle.std.specs.Option.{option_map_or, option_or}
-use Rattle.description_types.specs.declared.component.Port.{Port}
-use Rattle.description_types.specs.declared.description.Description.{Description}
-use Rattle.description_types.specs.declared.description.Prototype.{Prototype}
+use Rattle.std.proofs.Common.{◌≡◌, ◌<◌, ◌+◌, ◌-◌, ℕ, Bool, true, false, not, cond, ◌&&◌, ◌||◌, nat_eq, List, [], ◌∷◌, map, filter, slice_get, codes, Option, Some, None, option_map}
+use Rattle.std.proofs.Common.{option_and_then, inl, inr, refl, sym, ap, subst, ◌∙◌, arith, if◌then◌else◌}
+use Rattle.bus_semantics.specs.Common.{list_any, option_map_or, option_or}
+use Rattle.plan_definitions.specs.Common.{Port, Description, Prototype, End, Flat, Instance, Join, Among, both, incompatible_in, inner_interface, joins_compatible, are_compatible}
+use Rattle.plan_definitions.specs.Common.{are_several, crowds, is_crowded, is_many_to_many, providers, requirers, in_instances, in_ports, in_composition, refusal, end_text}
 use Rattle.description_types.specs.declared.description.PrototypeType.TheVariants as of
-use Rattle.description_types.specs.declared.flat.End.{End}
-use Rattle.description_types.specs.declared.flat.Flat.{Flat}
-use Rattle.description_types.specs.declared.flat.Instance.{Instance}
-use Rattle.description_types.specs.declared.flat.Join.{Join}
-use Rattle.description_types.specs.Members.{Among}
 use Rattle.plan_definitions.specs.declared.join_rule.JoinRule.TheVariants.{Services, Groups}
-use Rattle.plan_definitions.specs.Connectors.{both, incompatible_in, inner_interface, joins_compatible, ports_of}
-use Rattle.plan_definitions.specs.Interfaces.{are_compatible}
-use Rattle.plan_definitions.specs.Joins.{are_several, crowds, is_crowded, is_many_to_many, providers, requirers, same_end}
-use Rattle.plan_definitions.specs.JoinedItems.{end_of, in_instances, in_ports}
-use Rattle.plan_definitions.specs.JoinRefusals.{in_composition, refusal}
-use Rattle.plan_definitions.specs.Names.{end_text}
+use Rattle.plan_definitions.specs.Connectors.{ports_of}
+use Rattle.plan_definitions.specs.Joins.{same_end}
+use Rattle.plan_definitions.specs.JoinedItems.{end_of}
 use Rattle.description_stages.proofs.Held.{Shared}
 use Rattle.soak_maker.proofs.Lists.{among_at, first_none, get_first, get_second, get_third, three_at, two, two_at}
 use Rattle.soak_maker.proofs.Soaked.{acc_name, c_name, p_name, queue, service, soak_composition, soak_types, soaked, typed}

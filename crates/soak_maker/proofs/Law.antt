@@ -1,10 +1,9 @@
 -- The description of `soak N` breaks no rule.
 use Rattle.std.proofs.Common.{◌≡◌, ◌≤◌, ℕ, List, inl, inr, ⊎_elim, Some, None, refl, sym, ap, subst, ◌∙◌, if◌then◌else◌}
-use Rattle.std.specs.Option.{option_or}
-use Rattle.std.proofs.lemmas.Option.{none-some}
+use Rattle.bus_semantics.specs.Common.{option_or, none-some}
 use Rattle.rte_text.specs.declared.refusal.Refusal.{Refusal}
 use Rattle.rte_text.specs.declared.refusal.Refused.TheVariants.{Rule}
-use Rattle.description_types.specs.declared.description.Description.{Description}
+use Rattle.plan_definitions.specs.Common.{Description, Flat, Join, IsFlatOf, Among, IsAfter, IsOfTasks, mapping_text, IsOfLists, IsOfSize, IsRefusal, IsThen}
 use Rattle.declared_names.specs.Catalogs.{catalog_of}
 use Rattle.description_places.specs.Distinct.{breaks_distinct}
 use Rattle.description_places.specs.References.{breaks_references}
@@ -14,15 +13,9 @@ use Rattle.description_places.specs.Visits.{first_broken}
 use Rattle.component_model.specs.Descriptions.{description_of, reading}
 use Rattle.component_model.specs.Refusals as early
 use Rattle.component_model.specs.Refusals.{IsRead, typed_refusal}
-use Rattle.description_types.specs.declared.flat.Flat.{Flat}
-use Rattle.description_types.specs.declared.flat.Join.{Join}
-use Rattle.description_types.specs.Flattening.{IsFlatOf}
 use Rattle.description_types.specs.Flattening as flattening
-use Rattle.description_types.specs.Members.{Among}
 use Rattle.plan_definitions.specs.JoinRefusals as joins
 use Rattle.plan_definitions.specs.MappingRefusals as mapping
-use Rattle.plan_definitions.specs.MappingRefusals.{IsAfter, IsOfTasks, mapping_text}
-use Rattle.plan_definitions.specs.PlanRefusals.{IsOfLists, IsOfSize, IsRefusal, IsThen}
 use Rattle.description_stages.specs.Plans.{IsPlanRefusalOf}
 use Rattle.description_stages.proofs.Sizes.{plan_counts}
 use Rattle.soak_maker.specs.Soak.{soak_value}

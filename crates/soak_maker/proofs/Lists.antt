@@ -1,12 +1,11 @@
 -- Lists of as many things as a number says, one for each number below it.
-use Rattle.std.proofs.Common.{◌≡◌, ◌<◌, ◌≤◌, ◌+◌, ℕ, zero, suc, Bool, true, false, cond, ◌||◌, nat_eq, List, [], ◌∷◌, ◌++◌, map, filter, flat_map, length, take, slice_get, Option, Some, None, refl, sym, ap, ◌∙◌, subst, inl, inr, ◌⊎◌, ⊎_elim, true≢false, eqb-true, eq-eqb, ne_eqb, arith, zero-add, length-append, append_assoc}
-use Rattle.std.specs.List.{list_any, position_from, enumerate_from}
-use Rattle.std.specs.Option.{option_or}
-use Rattle.std.proofs.lemmas.List.{map-append}
+use Rattle.std.proofs.Common.{◌≡◌, ◌<◌, ◌≤◌, ◌+◌, ℕ, zero, suc, Bool, true, false, cond, ◌||◌, nat_eq, List, [], ◌∷◌, ◌++◌, map, filter, flat_map, length, take, slice_get, Option, Some}
+use Rattle.std.proofs.Common.{None, refl, sym, ap, ◌∙◌, subst, inl, inr, ◌⊎◌, ⊎_elim, true≢false, eqb-true, eq-eqb, ne_eqb, arith, zero-add, length-append, append_assoc}
+use Rattle.bus_semantics.specs.Common.{list_any, position_from, option_or, map-append}
+use Rattle.std.specs.List.{enumerate_from}
 use Rattle.serde_json.specs.Data.{Data}
 use Rattle.soak_maker.specs.Json.{each}
-use Rattle.description_types.specs.Members.{Among, AllApart}
-use Rattle.plan_definitions.specs.Firsts.{first_of}
+use Rattle.plan_definitions.specs.Common.{Among, AllApart, first_of}
 
 abbrev pub many : {X : Type 0} → ℕ → (ℕ → X) → List X
 many zero f = []

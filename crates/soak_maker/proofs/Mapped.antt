@@ -1,24 +1,13 @@
 -- Rules 25 to 29: the mapping of events to tasks.
-use Rattle.std.proofs.Common.{◌≡◌, ◌<◌, ◌≤◌, ◌+◌, ◌%◌, ℕ, zero, suc, Bool, true, false, not, cond, ◌&&◌, ◌||◌, ◌==◌, nat_eq, List, [], ◌∷◌, ◌++◌, map, filter, flat_map, length, slice_get, codes, bytes_eq, is_some, Option, Some, None, option_map, option_and_then, ◌⊎◌, inl, inr, refl, sym, ap, subst, ◌∙◌, arith, eqb-true, true≢false, mod-lt, append-nil, find}
-use Rattle.std.specs.List.{list_any, position_from}
-use Rattle.std.specs.Option.{option_map_or, option_or}
-use Rattle.std.proofs.lemmas.Option.{none-some}
-use Rattle.description_types.specs.declared.component.Component.{Component}
+use Rattle.std.proofs.Common.{◌≡◌, ◌<◌, ◌≤◌, ◌+◌, ◌%◌, ℕ, zero, suc, Bool, true, false, not, cond, ◌&&◌, ◌||◌, ◌==◌, nat_eq, List, [], ◌∷◌, ◌++◌, map, filter, flat_map, length, slice_get}
+use Rattle.std.proofs.Common.{codes, bytes_eq, is_some, Option, Some, None, option_map, option_and_then, ◌⊎◌, inl, inr, refl, sym, ap, subst, ◌∙◌, arith, eqb-true, true≢false, mod-lt}
+use Rattle.std.proofs.Common.{append-nil, find}
+use Rattle.bus_semantics.specs.Common.{list_any, position_from, option_map_or, option_or, none-some}
+use Rattle.plan_definitions.specs.Common.{Component, Description, MappedEvent, End, Flat, Instance, Join, Among, unless, provider_of, same_end, same_pair, event_named, instance_named}
+use Rattle.plan_definitions.specs.Common.{invokes, is_mapped, mapped_as, named_by, names, event_text, mapped_text, of_events, runnable_text, Chain, ReachesItself, Waits, are_same}
+use Rattle.plan_definitions.specs.Common.{badly_mapped, badly_mapped_in, is_mapped_well, not_direct, not_direct_in, serves_outside, spread, spread_in, tasks_behind, tasks_from, tasks_of}
+use Rattle.plan_definitions.specs.Common.{tasks_of_event, unnamed, waits_by, waits_for, component_of}
 use Rattle.description_types.specs.declared.component.EventKind.TheVariants as event
-use Rattle.description_types.specs.declared.description.Description.{Description}
-use Rattle.description_types.specs.declared.description.MappedEvent.{MappedEvent}
-use Rattle.description_types.specs.declared.flat.End.{End}
-use Rattle.description_types.specs.declared.flat.Flat.{Flat}
-use Rattle.description_types.specs.declared.flat.Instance.{Instance}
-use Rattle.description_types.specs.declared.flat.Join.{Join}
-use Rattle.description_types.specs.Members.{Among}
-use Rattle.plan_definitions.specs.Firsts.{unless}
-use Rattle.plan_definitions.specs.Joined.{provider_of, same_end}
-use Rattle.plan_definitions.specs.Keys.{same_pair}
-use Rattle.plan_definitions.specs.Mapped.{event_named, instance_named, invokes, is_mapped, mapped_as, named_by, names}
-use Rattle.plan_definitions.specs.MappingRefusals.{event_text, mapped_text, of_events, runnable_text}
-use Rattle.plan_definitions.specs.MappingRules.{Chain, ReachesItself, Waits, are_same, badly_mapped, badly_mapped_in, is_mapped_well, not_direct, not_direct_in, serves_outside, spread, spread_in, tasks_behind, tasks_from, tasks_of, tasks_of_event, unnamed, waits_by, waits_for}
-use Rattle.plan_definitions.specs.Parts.{component_of}
 use Rattle.description_stages.proofs.Held.{Shared}
 use Rattle.soak_maker.proofs.Lists.{AllAt, all_told, at_start, first_none, get_first, get_second, get_third, length-three, one_passes, position_is, three_at}
 use Rattle.soak_maker.proofs.Names.{acc_named, c_named, p_named}

@@ -1,15 +1,10 @@
 -- Rules 16 to 24, and 31: components and their programs.
 use Rattle.std.proofs.Common.{◌≡◌, ℕ, List, Option, Some, None, option_map, option_and_then, refl, ap}
-use Rattle.std.specs.Arc.{arc_value}
-use Rattle.std.specs.Option.{option_or}
-use Rattle.runnable_lang.specs.Trees.{program_tree}
-use Rattle.runnable_lang.specs.Refusals.{refusal}
+use Rattle.bus_semantics.specs.Common.{arc_value, option_or, program_tree, refusal}
 use Rattle.plan_definitions.specs.ComponentRefusals as components
-use Rattle.plan_definitions.specs.ComponentRefusals.{of_events, of_programs, of_rule}
+use Rattle.plan_definitions.specs.Common.{of_programs, of_rule, path_of, program_refusal, refused_program, signature, program_text}
+use Rattle.plan_definitions.specs.ComponentRefusals.{of_events}
 use Rattle.plan_definitions.specs.declared.component_rule.ComponentRule.TheVariants as rule
-use Rattle.plan_definitions.specs.Programs.{path_of, program_refusal, refused_program}
-use Rattle.plan_definitions.specs.Signatures.{signature}
-use Rattle.plan_definitions.specs.Spots.{program_text}
 use Rattle.description_stages.proofs.Held.{Shared, running}
 use Rattle.soak_maker.proofs.Soaked.{adding, consumer_program, consumer_tree, holding, making, producer_program, producer_tree, server_program, server_tree, soak_types, soaked, taking}
 

@@ -4,16 +4,15 @@ use Rattle.std.specs.Fmt.{digits}
 use Rattle.serde_json.specs.Data.{Data, string}
 use Rattle.serde_json.specs.View.{items_of}
 use Rattle.serde_json.proofs.OnLiterals.{serde_json_on_literals}
-use Rattle.description_types.specs.declared.description.Connector.TheVariants.{Assembly}
-use Rattle.description_types.specs.declared.description.InnerPort.{InnerPort}
-use Rattle.description_types.specs.declared.description.PrototypeType.{PrototypeType}
+use Rattle.plan_definitions.specs.Common.{Assembly, InnerPort, PrototypeType}
 use Rattle.description_types.specs.declared.description.PrototypeType.TheVariants as of
 use Rattle.declared_names.specs.declared.scopes.PrototypeNames.{PrototypeNames}
 use Rattle.declared_names.specs.Names.{Names, position_in, short_names}
 use Rattle.declared_names.specs.Scopes.{prototype_names, scope_of, type_names}
 use Rattle.declared_names.specs.Values.{items_at, listed, text_at}
 use Rattle.component_model.specs.declared.composition_reading.Ends.{Ends}
-use Rattle.component_model.specs.Compositions.{composition_reading, connector_reading, connectors_between, ends_in, mapped_event_reading, mapping_reading, port_in_type, prototype_reading, prototype_type_reading}
+use Rattle.component_model.specs.Compositions.{composition_reading, connector_reading, connectors_between, ends_in, mapped_event_reading, mapping_reading, port_in_type, prototype_reading}
+use Rattle.component_model.specs.Compositions.{prototype_type_reading}
 use Rattle.component_model.specs.Descriptions.{reading}
 use Rattle.component_model.specs.Programs.{component_reading}
 use Rattle.program_reading.specs.Keywords.{keyword_of}
@@ -24,7 +23,8 @@ use Rattle.soak_maker.specs.Parts as parts
 use Rattle.soak_maker.specs.Soak.{connectors, mapping, prototypes, soak_value}
 use Rattle.soak_maker.proofs.Lists.{get_first, get_second, get_third, map_three, map_two, three, two_same}
 use Rattle.soak_maker.proofs.Names.{acc_position, c_position, p_position}
-use Rattle.soak_maker.proofs.Soaked.{acc_name, c_name, consumer_tree, in_task, inner, p_name, producer_tree, queue, server_tree, service, soak_composition, soak_mapping, soak_tasks, soak_tree, soak_types}
+use Rattle.soak_maker.proofs.Soaked.{acc_name, c_name, consumer_tree, in_task, inner, p_name, producer_tree, queue, server_tree, service, soak_composition, soak_mapping, soak_tasks}
+use Rattle.soak_maker.proofs.Soaked.{soak_tree, soak_types}
 
 pub listed_back : (ds : List Data) → listed (items_of ds) ≡ ds
 listed_back [] = refl

@@ -2,10 +2,8 @@
 use Rattle.std.proofs.Common.{◌≡◌, ℕ, zero, suc, List, [], ◌∷◌, map, refl, sym, ap, ◌∙◌, subst}
 use Rattle.bus_semantics.specs.declared.script.Line.{Line}
 use Rattle.bus_semantics.specs.declared.script.Line.TheVariants.{Tick, Run, Call}
-use Rattle.bus_semantics.specs.Plan.{Plan}
-use Rattle.bus_semantics.specs.Spelling.{Letters}
-use Rattle.script_reading.specs.Meaning.{asked_of, ticks, a_run}
-use Rattle.script_reading.specs.Reading.{IsScript}
+use Rattle.bus_semantics.specs.Common.{Plan, Letters}
+use Rattle.script_reading.specs.Common.{asked_of, ticks, a_run, IsScript}
 use Rattle.soak_maker.specs.Script.{round_lines, rounds, soak_lines}
 
 soak_script : (p : Plan) → IsScript p (rounds 20) soak_lines

@@ -1,32 +1,15 @@
 -- Rule 30: the plan is small.
-use Rattle.std.proofs.Common.{◌≡◌, ◌<◌, ◌≤◌, ◌+◌, ◌*◌, ℕ, zero, suc, Bool, true, false, cond, ◌&&◌, ◌||◌, nat_eq, nat_le, List, [], ◌∷◌, filter, length, slice_get, slice_index_or, sum_by, Option, Some, None, refl, sym, subst, arith, if◌then◌else◌, true≢false, find, length-append, le-ltb, leb-true}
-use Rattle.std.specs.List.{list_all}
-use Rattle.std.specs.Option.{option_map_or, unwrap_or}
-use Rattle.std.proofs.lemmas.List.{length-map}
+use Rattle.std.proofs.Common.{◌≡◌, ◌<◌, ◌≤◌, ◌+◌, ◌*◌, ℕ, zero, suc, Bool, true, false, cond, ◌&&◌, ◌||◌, nat_eq, nat_le, List, [], ◌∷◌, filter, length, slice_get, slice_index_or, sum_by}
+use Rattle.std.proofs.Common.{Option, Some, None, refl, sym, subst, arith, if◌then◌else◌, true≢false, find, length-append, le-ltb, leb-true}
+use Rattle.bus_semantics.specs.Common.{list_all, option_map_or, unwrap_or, length-map}
 use Rattle.std.proofs.lemmas.List.Sums.{sum_by-le}
-use Rattle.description_types.specs.declared.interface.ComSpec.{ComSpec}
-use Rattle.description_types.specs.declared.component.Component.{Component}
-use Rattle.description_types.specs.declared.component.Port.{Port}
-use Rattle.description_types.specs.declared.description.Description.{Description}
-use Rattle.description_types.specs.declared.flat.Flat.{Flat}
-use Rattle.description_types.specs.declared.flat.Instance.{Instance}
-use Rattle.description_types.specs.declared.flat.Join.{Join}
+use Rattle.plan_definitions.specs.Common.{ComSpec, Component, Port, Description, Flat, Instance, Join, callings, callings_of_component, head_at, heads, leader_of, kind_of, leaders}
+use Rattle.plan_definitions.specs.Common.{is_element, is_machine, is_server, keys_of, of_kind, pair_number, from, invocation_of, areas_of, component_of, counted_at, events_of, numbered}
+use Rattle.plan_definitions.specs.Common.{is_queued, com_spec_of, port_of, ports_of, queue_length_of, is_numbered_mapped, sites, sites_of_instance, elements_of}
 use Rattle.plan_definitions.specs.declared.part.Part.TheVariants.{Areas, Events}
 use Rattle.plan_definitions.specs.declared.site.Site.{Site}
 use Rattle.plan_definitions.specs.declared.site.SiteKind.{SiteKind}
 use Rattle.plan_definitions.specs.declared.site.SiteKind.TheVariants.{Element, Variable, Server, Machine, ModePort}
-use Rattle.plan_definitions.specs.Callings.{callings, callings_of_component}
-use Rattle.plan_definitions.specs.ElementGroups.{head_at, heads, leader_of}
-use Rattle.plan_definitions.specs.Elements.{kind_of, leaders}
-use Rattle.plan_definitions.specs.Keys.{is_element, is_machine, is_server, keys_of, of_kind, pair_number}
-use Rattle.plan_definitions.specs.Lists.{from}
-use Rattle.plan_definitions.specs.Mapped.{invocation_of}
-use Rattle.plan_definitions.specs.Parts.{areas_of, component_of, counted_at, events_of, numbered}
-use Rattle.plan_definitions.specs.PlanRules.{is_queued}
-use Rattle.plan_definitions.specs.Ports.{com_spec_of, port_of, ports_of, queue_length_of}
-use Rattle.plan_definitions.specs.Services.{is_numbered_mapped}
-use Rattle.plan_definitions.specs.Sites.{sites, sites_of_instance}
-use Rattle.plan_definitions.specs.Things.{elements_of}
 use Rattle.description_stages.specs.Sizes.{is_past, things_of, waiting_at}
 use Rattle.description_stages.proofs.Held.{Shared}
 use Rattle.soak_maker.proofs.Lists.{AllAt, at_start, length-three, three_at}

@@ -1,30 +1,14 @@
 -- The typed description of `soak N`, with any three programs.
 use Rattle.std.proofs.Common.{◌+◌, ◌%◌, ℕ, pos, false, List, [], ◌∷◌, map, codes, None}
 use Rattle.description_types.specs.declared.base_type.BaseType.TheVariants as base
-use Rattle.description_types.specs.declared.interface.ComSpec.{ComSpec}
-use Rattle.description_types.specs.declared.interface.Direction.TheVariants.{In, Out}
-use Rattle.description_types.specs.declared.interface.InterfaceKind.TheVariants.{SenderReceiver, ClientServer}
-use Rattle.description_types.specs.declared.interface.SwImplPolicy.TheVariants.{Queued}
-use Rattle.description_types.specs.declared.interface.TypeTable.{TypeTable}
+use Rattle.plan_definitions.specs.Common.{ComSpec, In, Out, SenderReceiver, ClientServer, Queued, TypeTable, Access, Component, Provided, Required, Variable, Composition, Connector}
+use Rattle.plan_definitions.specs.Common.{Assembly, Description, InnerPort, MappedEvent, Prototype, Task, TaskMapping}
 use Rattle.runnable_lang.specs.declared.program.AccessKind.{AccessKind}
 use Rattle.runnable_lang.specs.declared.program.AccessKind.TheVariants as kind
 use Rattle.runnable_lang.specs.declared.stmt.Op.TheVariants as op
 use Rattle.runnable_lang.specs.Trees.{ProgramTree, constant, variable, combined, sets, chooses, repeats, in_area, sends, receives, writes_variable, reads_variable, calls, done, next}
-use Rattle.description_types.specs.declared.component.Access.{Access}
-use Rattle.description_types.specs.declared.component.Component.{Component}
 use Rattle.description_types.specs.declared.component.EventKind.TheVariants as event
-use Rattle.description_types.specs.declared.component.PortKind.TheVariants.{Provided, Required}
-use Rattle.description_types.specs.declared.component.Variable.{Variable}
-use Rattle.description_types.specs.declared.description.Composition.{Composition}
-use Rattle.description_types.specs.declared.description.Connector.{Connector}
-use Rattle.description_types.specs.declared.description.Connector.TheVariants.{Assembly}
-use Rattle.description_types.specs.declared.description.Description.{Description}
-use Rattle.description_types.specs.declared.description.InnerPort.{InnerPort}
-use Rattle.description_types.specs.declared.description.MappedEvent.{MappedEvent}
-use Rattle.description_types.specs.declared.description.Prototype.{Prototype}
 use Rattle.description_types.specs.declared.description.PrototypeType.TheVariants as of
-use Rattle.description_types.specs.declared.description.Task.{Task}
-use Rattle.description_types.specs.declared.description.TaskMapping.{TaskMapping}
 use Rattle.component_model.specs.Descriptions.{DescriptionTree}
 use Rattle.component_model.specs.Programs.{ComponentTree, RunnableTree}
 use Rattle.description_stages.proofs.Held.{Shared, running}

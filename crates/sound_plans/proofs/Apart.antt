@@ -1,14 +1,10 @@
 -- Lists in which nothing stands twice.
-use Rattle.std.proofs.Common.{◌≡◌, ℕ, zero, suc, ◌+◌, List, [], ◌∷◌, ◌++◌, map, filter, slice_get, Bool, true, false, cond, not, nat_eq, Some, inl, inr, ⊎_elim, refl, sym, ap, subst, ◌∙◌, arith, true≢false}
-use Rattle.std.proofs.lemmas.Bool.{and_parts, and_from, eqb-true, false_from_ne_true, not-true}
-use Rattle.std.specs.List.{list_any}
-use Rattle.bus_semantics.specs.SoundNames.{Named, same_named, named_once}
-use Rattle.bus_semantics.specs.SoundPlan.{same_numbers}
+use Rattle.std.proofs.Common.{◌≡◌, ℕ, zero, suc, ◌+◌, List, [], ◌∷◌, ◌++◌, map, filter, slice_get, Bool, true, false, cond, not, nat_eq, Some, inl, inr, ⊎_elim, refl, sym, ap, subst, ◌∙◌}
+use Rattle.std.proofs.Common.{arith, true≢false}
+use Rattle.bus_semantics.specs.Common.{and_parts, and_from, eqb-true, false_from_ne_true, not-true, list_any, Named, same_named, named_once, same_numbers}
 use Rattle.plan_definitions.proofs.Lists.{same_numbers_is, same_numbers_refl, cases, at as get_among}
 use Rattle.sound_plans.proofs.Lists.{filtered, mapped, map_has, none_from, any_has, piece}
-use Rattle.description_types.specs.Members.{Among, AllApart}
-use Rattle.plan_definitions.specs.Lists.{from}
-use Rattle.plan_definitions.specs.WellFormed.{distinct}
+use Rattle.plan_definitions.specs.Common.{Among, AllApart, from, distinct}
 
 module _ {X : Type 0} where
   pub apart_append : (xs ys : List X) → AllApart xs → AllApart ys → ((x : X) → Among x xs → Among x ys → ⊥) → AllApart (xs ++ ys)

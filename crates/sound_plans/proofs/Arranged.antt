@@ -1,35 +1,15 @@
 -- The lists of a plan stand by instance.
 use Rattle.std.proofs.Common.{◌≡◌, ℕ, ◌+◌, ◌*◌, [], ◌∷◌, map, length, slice_get, true, cond, Option, Some, None, is_none, ⊎_elim, refl, sym, ap, subst, ◌∙◌, arith}
-use Rattle.std.proofs.lemmas.Bool.{and_from}
-use Rattle.std.proofs.lemmas.List.{map-append}
+use Rattle.bus_semantics.specs.Common.{and_from, map-append, option_map_or, unwrap_or, Runnable, instance_of, is_arranged, is_rising, is_variable, rank}
 use mathlib.Core.List.{map-map}
-use Rattle.std.specs.Option.{option_map_or, unwrap_or}
-use Rattle.description_types.specs.declared.component.Component.{Component}
-use Rattle.description_types.specs.declared.description.Description.{Description}
-use Rattle.description_types.specs.declared.flat.Flat.{Flat}
-use Rattle.description_types.specs.declared.flat.Instance.{Instance}
-use Rattle.bus_semantics.specs.declared.plan.AreaPlan.{AreaPlan}
-use Rattle.bus_semantics.specs.declared.plan.BusPlan.{BusPlan}
-use Rattle.bus_semantics.specs.declared.plan.ElemPlan.{ElemPlan}
-use Rattle.bus_semantics.specs.declared.plan.EventPlan.{EventPlan}
-use Rattle.bus_semantics.specs.declared.plan.MachinePlan.{MachinePlan}
-use Rattle.bus_semantics.specs.declared.plan.ModePortPlan.{ModePortPlan}
-use Rattle.bus_semantics.specs.declared.plan.ServerPlan.{ServerPlan}
+use Rattle.plan_definitions.specs.Common.{Component, Description, Flat, Instance, is_element, is_machine, is_mode_port, is_server, of_kind, from, positions, root_ports, site, sites}
+use Rattle.plan_definitions.specs.Common.{sites_of_component, sites_of_instance, sites_of_ports, variables_of, Elem, elem_seen, element_of, group_of, elements_of, has_machine, machines_of}
+use Rattle.plan_definitions.specs.Common.{mode_ports_of, servers_of, events_of_component, events, runnable_of, runnables_of_component, runnables, machine_at, mode_port_at, server_of, areas}
+use Rattle.plan_definitions.specs.Common.{area_of, areas_at, named_areas, plan_of, seen, IsWellFormed}
+use Rattle.bus_laws.specs.Common.{AreaPlan, BusPlan, ElemPlan, EventPlan, MachinePlan, ModePortPlan, ServerPlan}
 use Rattle.bus_semantics.specs.Plan as bus
-use Rattle.bus_semantics.specs.Plan.{Runnable, instance_of}
-use Rattle.bus_semantics.specs.SoundPlan.{is_arranged, is_rising, is_variable, rank}
 use Rattle.plan_definitions.specs.declared.site.Site.{Site}
 use Rattle.plan_definitions.specs.declared.site.SiteKind.TheVariants.{Variable}
-use Rattle.plan_definitions.specs.Keys.{is_element, is_machine, is_mode_port, is_server, of_kind}
-use Rattle.plan_definitions.specs.Lists.{from, positions}
-use Rattle.plan_definitions.specs.Sites.{root_ports, site, sites, sites_of_component, sites_of_instance, sites_of_ports, variables_of}
-use Rattle.plan_definitions.specs.Elements.{Elem, elem_seen, element_of, group_of}
-use Rattle.plan_definitions.specs.Things.{elements_of, has_machine, machines_of, mode_ports_of, servers_of}
-use Rattle.plan_definitions.specs.Started.{events_of_component, events, runnable_of, runnables_of_component, runnables}
-use Rattle.plan_definitions.specs.Modes.{machine_at, mode_port_at}
-use Rattle.plan_definitions.specs.Services.{server_of}
-use Rattle.plan_definitions.specs.Planned.{areas, area_of, areas_at, named_areas, plan_of, seen}
-use Rattle.plan_definitions.specs.WellFormed.{IsWellFormed}
 use Rattle.sound_plans.proofs.Homes.{event_home}
 use Rattle.sound_plans.proofs.Lists.{map_same, mapped, pieces}
 use Rattle.sound_plans.proofs.Numbers.{in_component}

@@ -1,31 +1,13 @@
 -- The lists of a plan, and how large it is by rule 30.
-use Rattle.std.proofs.Common.{◌≡◌, ℕ, ◌+◌, ◌≤◌, List, [], ◌∷◌, map, length, fold, Bool, true, false, if◌then◌else◌, not, ◌&&◌, ◌||◌, ◌==◌, nat_lt, nat_le, Option, Some, None, unwrap_or, refl, sym, ap, subst, ◌∙◌, arith}
-use Rattle.std.proofs.lemmas.Bool.{and_from, eq-eqb, le-leb, ltb-false, or_parts}
-use Rattle.std.specs.List.{sum_by}
-use Rattle.description_types.specs.declared.description.Description.{Description}
-use Rattle.description_types.specs.declared.flat.Flat.{Flat}
-use Rattle.bus_semantics.specs.declared.plan.BusPlan.{BusPlan}
-use Rattle.bus_semantics.specs.declared.plan.ElemPlan.{ElemPlan}
-use Rattle.bus_semantics.specs.declared.plan.MachinePlan.{MachinePlan}
-use Rattle.bus_semantics.specs.declared.plan.ServerPlan.{ServerPlan}
-use Rattle.bus_semantics.specs.declared.script.Mapping.{Mapping}
-use Rattle.bus_semantics.specs.Objects.{clock}
-use Rattle.bus_semantics.specs.Owners.{is_queued}
-use Rattle.bus_semantics.specs.Plan.{plan_of}
-use Rattle.bus_semantics.specs.Sound.{number_or_0, queue_lengths, sum_over}
-use Rattle.bus_semantics.specs.SoundPlan.{objects_counted, things}
+use Rattle.std.proofs.Common.{◌≡◌, ℕ, ◌+◌, ◌≤◌, List, [], ◌∷◌, map, length, fold, Bool, true, false, if◌then◌else◌, not, ◌&&◌, ◌||◌, ◌==◌, nat_lt, nat_le, Option, Some, None, unwrap_or}
+use Rattle.std.proofs.Common.{refl, sym, ap, subst, ◌∙◌, arith}
+use Rattle.bus_semantics.specs.Common.{and_from, eq-eqb, le-leb, ltb-false, or_parts, sum_by, clock, is_queued, plan_of, number_or_0, queue_lengths, sum_over, objects_counted, things}
+use Rattle.plan_definitions.specs.Common.{Description, Flat, IsAfter, mapping_text, elem_seen, elements, leaders, groups, machines, servers, bundle_leaders, bundles, groups_listed, homes}
+use Rattle.plan_definitions.specs.Common.{lists, areas, object_count, plan_of as planned, IsOfLists, IsOfSize, IsRefusal, IsThen, is_too_large, queue_lengths as all_lengths, received}
+use Rattle.plan_definitions.specs.Common.{requested, things as few_of, IsWhole}
+use Rattle.bus_laws.specs.Common.{BusPlan, ElemPlan, MachinePlan, ServerPlan, Mapping}
 use Rattle.plan_definitions.specs.ComponentRefusals as components
-use Rattle.plan_definitions.specs.MappingRefusals.{IsAfter, mapping_text}
 use Rattle.plan_definitions.specs.MappingRefusals as mapping
-use Rattle.plan_definitions.specs.Elements.{elem_seen, elements, leaders}
-use Rattle.plan_definitions.specs.ElementGroups.{groups}
-use Rattle.plan_definitions.specs.Modes.{machines}
-use Rattle.plan_definitions.specs.Services.{servers}
-use Rattle.plan_definitions.specs.Listed.{bundle_leaders, bundles, groups_listed, homes, lists}
-use Rattle.plan_definitions.specs.Planned.{areas, object_count, plan_of as planned}
-use Rattle.plan_definitions.specs.PlanRefusals.{IsOfLists, IsOfSize, IsRefusal, IsThen}
-use Rattle.plan_definitions.specs.PlanRules.{is_too_large, queue_lengths as all_lengths, received, requested, things as few_of}
-use Rattle.plan_definitions.specs.Whole.{IsWhole}
 use Rattle.plan_definitions.proofs.Labels.{groups_few, many_leaders}
 use Rattle.sound_plans.proofs.Seen.{areas_are, elements_are, machines_are, servers_are}
 

@@ -1,27 +1,12 @@
 -- Bundles: each lists exactly the groups that coherent lists connect, and the bundles stand in order of their least groups.
-use Rattle.std.proofs.Common.{◌≡◌, ℕ, suc, ◌+◌, ◌<◌, List, [], ◌∷◌, ◌++◌, length, map, filter, Bool, true, ◌&&◌, ◌==◌, nat_lt, Option, Some, None, option_map, option_to_list, slice_get, refl, sym, ap, ◌∙◌, arith}
-use Rattle.std.proofs.lemmas.Bool.{and_from, eq-eqb, lt-ltb}
-use Rattle.std.proofs.lemmas.List.{length-map}
-use Rattle.std.proofs.lemmas.Option.{slice_get-map, slice_get_within}
-use Rattle.std.specs.List.{flat_map, list_all}
-use Rattle.std.specs.Option.{option_map_or}
-use Rattle.description_types.specs.declared.description.Description.{Description}
-use Rattle.description_types.specs.declared.flat.Flat.{Flat}
-use Rattle.rte_value.specs.Values.{same_number}
-use Rattle.bus_semantics.specs.declared.plan.BusPlan.{BusPlan}
-use Rattle.bus_semantics.specs.declared.plan.CoherentList.{CoherentList}
-use Rattle.bus_semantics.specs.declared.plan.ElemPlan.{ElemPlan}
-use Rattle.bus_semantics.specs.declared.script.Mapping.{Mapping}
-use Rattle.bus_semantics.specs.Bundles.{groups_at, home_of, leaders_by}
-use Rattle.bus_semantics.specs.Plan.{Plan, every_from, group_of, plan_of, positions as bus_positions}
-use Rattle.bus_semantics.specs.SoundLists.{bundles_fit, first_group, groups_listed}
-use Rattle.bus_semantics.specs.SoundPlan.{first_of, firsts, is_rising, same_numbers}
-use Rattle.plan_definitions.specs.Elements.{elem_seen, elements, leaders}
-use Rattle.plan_definitions.specs.ElementGroups.{group_number, groups, heads, members}
+use Rattle.std.proofs.Common.{◌≡◌, ℕ, suc, ◌+◌, ◌<◌, List, [], ◌∷◌, ◌++◌, length, map, filter, Bool, true, ◌&&◌, ◌==◌, nat_lt, Option, Some, None, option_map, option_to_list, slice_get}
+use Rattle.std.proofs.Common.{refl, sym, ap, ◌∙◌, arith}
+use Rattle.bus_semantics.specs.Common.{and_from, eq-eqb, lt-ltb, length-map, slice_get-map, slice_get_within, flat_map, list_all, option_map_or, same_number, groups_at, home_of, leaders_by}
+use Rattle.bus_semantics.specs.Common.{Plan, every_from, group_of, plan_of, positions as bus_positions, bundles_fit, first_group, groups_listed, first_of, firsts, is_rising, same_numbers}
+use Rattle.plan_definitions.specs.Common.{Description, Flat, elem_seen, elements, leaders, group_number, groups, heads, members, bundle_leaders, lists, positions, IsWhole}
+use Rattle.bus_laws.specs.Common.{BusPlan, CoherentList, ElemPlan, Mapping}
 use Rattle.plan_definitions.specs.Listed as listed
-use Rattle.plan_definitions.specs.Listed.{bundle_leaders, group_at, lists}
-use Rattle.plan_definitions.specs.Lists.{positions}
-use Rattle.plan_definitions.specs.Whole.{IsWhole}
+use Rattle.plan_definitions.specs.Listed.{group_at}
 use Rattle.plan_definitions.proofs.Labels.{many_leaders}
 use Rattle.plan_definitions.proofs.Lists.{map_get, position_there, same_numbers_refl, there}
 use Rattle.sound_plans.proofs.Bounded.{bundles_are, groups_are, homes_are, lists_are}

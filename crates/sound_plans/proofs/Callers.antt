@@ -1,35 +1,14 @@
 -- Points by the accesses that call: each has the number of its place; results come from points that go on.
 use Rattle.std.proofs.Common.{◌≡◌, ℕ, zero, suc, ◌+◌, Bool, true, false, ◌&&◌, not, ◌==◌, nat_eq, refl, sym, ◌∙◌, ap, subst, arith, List, [], ◌∷◌, Option, Some, None, option_map, ◌⊎◌, inl, inr}
-use Rattle.std.specs.Arc.{arc_value}
-use Rattle.std.specs.List.{slice_get, list_any, list_all}
-use Rattle.std.specs.Option.{option_map_or, unwrap_or}
-use Rattle.std.proofs.lemmas.Bool.{false≢true, eqb-true, eq-eqb, and_from, and_parts, not-true}
-use Rattle.std.proofs.lemmas.Map.Keys.{any_passes_from_place}
-use Rattle.std.proofs.lemmas.Option.{same_Some}
-use Rattle.runnable_lang.specs.declared.program.AccessKind.{AccessKind}
+use Rattle.bus_semantics.specs.Common.{arc_value, slice_get, list_any, list_all, option_map_or, unwrap_or, false≢true, eqb-true, eq-eqb, and_from, and_parts, not-true, any_passes_from_place}
+use Rattle.bus_semantics.specs.Common.{same_Some, AccessKind, program_tree, result_point, instance_of, is_well_formed}
 use Rattle.runnable_lang.specs.declared.program.AccessKind.TheVariants as kind
-use Rattle.runnable_lang.specs.Trees.{program_tree}
-use Rattle.description_types.specs.declared.component.Access.{Access}
-use Rattle.description_types.specs.declared.component.Component.{Component}
-use Rattle.description_types.specs.declared.component.Runnable.{Runnable}
-use Rattle.description_types.specs.declared.description.Description.{Description}
-use Rattle.description_types.specs.declared.flat.Flat.{Flat}
-use Rattle.bus_semantics.specs.declared.plan.BusPlan.{BusPlan}
-use Rattle.bus_semantics.specs.declared.plan.ElemPlan.{ElemPlan}
-use Rattle.bus_semantics.specs.declared.plan.PointPlan.{PointPlan}
-use Rattle.bus_semantics.specs.declared.script.Mapping.{Mapping}
-use Rattle.bus_semantics.specs.Owners.{result_point}
+use Rattle.plan_definitions.specs.Common.{Access, Component, Runnable, Description, Flat, pair_number, runnables_of, runnable_of, runnables, callings, is_calling, leaves, point_number}
+use Rattle.plan_definitions.specs.Common.{point_of, points, IsWhole}
+use Rattle.bus_laws.specs.Common.{BusPlan, ElemPlan, PointPlan, Mapping}
 use Rattle.bus_semantics.specs.Plan as plan
-use Rattle.bus_semantics.specs.Plan.{instance_of}
-use Rattle.bus_semantics.specs.SoundPrograms.{is_well_formed}
-use Rattle.plan_definitions.specs.Keys.{pair_number}
-use Rattle.plan_definitions.specs.Parts.{runnables_of}
-use Rattle.plan_definitions.specs.Started.{runnable_of, runnables}
 use Rattle.plan_definitions.specs.declared.calling.Calling.{Calling}
-use Rattle.plan_definitions.specs.Callings.{callings, is_calling, leaves, point_number}
-use Rattle.plan_definitions.specs.Services.{point_of, points}
 use Rattle.plan_definitions.specs.WellFormed as formed
-use Rattle.plan_definitions.specs.Whole.{IsWhole}
 use Rattle.bus_laws.proofs.Thinning.{clash, option_test}
 use Rattle.sound_plans.proofs.Places.{not_some, found, append_at, Later, looked, mapped}
 use Rattle.sound_plans.proofs.Parts.{Home, same_home, runnable_there}

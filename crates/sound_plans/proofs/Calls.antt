@@ -1,40 +1,19 @@
 -- The calls of a description that breaks no rule on components: each names an operation that its owner requires.
-use Rattle.std.proofs.Common.{◌≡◌, ℕ, zero, suc, ◌+◌, ◌<◌, List, [], ◌∷◌, map, length, slice_get, Bool, true, false, cond, Option, Some, None, option_map, ⊎_elim, refl, sym, ap, subst, ◌∙◌, arith, true≢false}
-use Rattle.std.proofs.lemmas.Option.{slice_get_within}
-use Rattle.std.specs.Option.{option_map_or}
-use Rattle.runnable_lang.specs.declared.program.AccessKind.{AccessKind}
+use Rattle.std.proofs.Common.{◌≡◌, ℕ, zero, suc, ◌+◌, ◌<◌, List, [], ◌∷◌, map, length, slice_get, Bool, true, false, cond, Option, Some, None, option_map, ⊎_elim, refl, sym, ap, subst, ◌∙◌}
+use Rattle.std.proofs.Common.{arith, true≢false}
+use Rattle.bus_semantics.specs.Common.{slice_get_within, option_map_or, AccessKind}
 use Rattle.runnable_lang.specs.declared.program.AccessKind.TheVariants as kind
-use Rattle.description_types.specs.declared.interface.DataElement.{DataElement}
-use Rattle.description_types.specs.declared.interface.Interface.{Interface}
-use Rattle.description_types.specs.declared.interface.InterfaceKind.{InterfaceKind}
-use Rattle.description_types.specs.declared.interface.InterfaceKind.TheVariants.{SenderReceiver, ClientServer, ModeSwitch}
-use Rattle.description_types.specs.declared.interface.ModeGroup.{ModeGroup}
+use Rattle.plan_definitions.specs.Common.{DataElement, Interface, InterfaceKind, SenderReceiver, ClientServer, ModeSwitch, ModeGroup, TypeTable, Access, Component, Port, PortKind, Provided}
+use Rattle.plan_definitions.specs.Common.{Required, Runnable, Description, Flat, Among, names_port, fits, access_fits, misfit_among, misfit, first_of, unless, item_of, item_of_port, item_at}
+use Rattle.plan_definitions.specs.Common.{IsAfter, from, positions, of_instances, provides_at, root_ports, calling_of, callings_in, callings_of_component, operation_count, operations_at}
+use Rattle.plan_definitions.specs.Common.{outer_calling, outer_callings, callings, owner_of, IsRefusal}
 use Rattle.description_types.specs.declared.interface.Operation as declared
-use Rattle.description_types.specs.declared.interface.TypeTable.{TypeTable}
-use Rattle.description_types.specs.declared.component.Access.{Access}
-use Rattle.description_types.specs.declared.component.Component.{Component}
-use Rattle.description_types.specs.declared.component.Port.{Port}
-use Rattle.description_types.specs.declared.component.PortKind.{PortKind}
-use Rattle.description_types.specs.declared.component.PortKind.TheVariants.{Provided, Required}
-use Rattle.description_types.specs.declared.component.Runnable.{Runnable}
-use Rattle.description_types.specs.declared.description.Description.{Description}
-use Rattle.description_types.specs.declared.flat.Flat.{Flat}
-use Rattle.description_types.specs.Members.{Among}
 use Rattle.plan_definitions.specs.declared.item.Item.{Item}
 use Rattle.plan_definitions.specs.declared.item.Item.TheVariants.{Data, Operation, Modes}
 use Rattle.plan_definitions.specs.declared.component_rule.ComponentRule.TheVariants as rule
 use Rattle.plan_definitions.specs.declared.spot.Spot.TheVariants as spot
-use Rattle.plan_definitions.specs.Accesses.{names_port, fits, access_fits, misfit_among, misfit}
-use Rattle.plan_definitions.specs.Firsts.{first_of, unless}
-use Rattle.plan_definitions.specs.Items.{item_of, item_of_port, item_at}
 use Rattle.plan_definitions.specs.ComponentRefusals as components
-use Rattle.plan_definitions.specs.MappingRefusals.{IsAfter}
-use Rattle.plan_definitions.specs.Lists.{from, positions}
-use Rattle.plan_definitions.specs.Parts.{of_instances}
-use Rattle.plan_definitions.specs.Sites.{provides_at, root_ports}
 use Rattle.plan_definitions.specs.declared.calling.Calling.{Calling}
-use Rattle.plan_definitions.specs.Callings.{calling_of, callings_in, callings_of_component, operation_count, operations_at, outer_calling, outer_callings, callings, owner_of}
-use Rattle.plan_definitions.specs.PlanRefusals.{IsRefusal}
 use Rattle.plan_definitions.proofs.Firsts.{map_none, or_none, unless_none}
 use Rattle.plan_definitions.proofs.Lists.{place as among_get, cases, unflat}
 use Rattle.sound_plans.proofs.Lists.{and_then_some, map_some, mapped, pieces, position_in}

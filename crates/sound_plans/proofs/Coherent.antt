@@ -1,53 +1,25 @@
 -- Coherent lists are sound: each is one of its runnable, has elements that the runnable reads, or writes, implicitly, with few words, and
 -- no element stands twice in the lists of a runnable.
-use Rattle.std.proofs.Common.{◌≡◌, ℕ, zero, suc, ◌+◌, ◌<◌, ◌≤◌, Bool, true, false, cond, not, ◌&&◌, ◌||◌, ◌==◌, nat_eq, nat_le, inl, inr, ⊎_elim, refl, sym, ◌∙◌, ap, subst, arith, List, [], ◌∷◌, ◌++◌, map, filter, fold, length, get_or, Option, Some, None, option_map, option_and_then}
-use Rattle.std.proofs.lemmas.Bool.{and_from, and_parts, eq-eqb, eqb-true, le-leb, leb-true, ltb-true, or_cases}
-use Rattle.std.proofs.lemmas.List.{length-append, length-map, map-append}
-use Rattle.std.proofs.lemmas.Option.{get_or_from_slice_get, same_Some, slice_get_within}
-use Rattle.std.specs.List.{flat_map, list_all, list_any, slice_get, sum_by}
-use Rattle.std.specs.Option.{option_map_or}
-use Rattle.runnable_lang.specs.declared.program.AccessKind.{AccessKind}
+use Rattle.std.proofs.Common.{◌≡◌, ℕ, zero, suc, ◌+◌, ◌<◌, ◌≤◌, Bool, true, false, cond, not, ◌&&◌, ◌||◌, ◌==◌, nat_eq, nat_le, inl, inr, ⊎_elim, refl, sym, ◌∙◌, ap, subst, arith, List, []}
+use Rattle.std.proofs.Common.{◌∷◌, ◌++◌, map, filter, fold, length, get_or, Option, Some, None, option_map, option_and_then}
+use Rattle.bus_semantics.specs.Common.{and_from, and_parts, eq-eqb, eqb-true, le-leb, leb-true, ltb-true, or_cases, length-append, length-map, map-append, get_or_from_slice_get, same_Some}
+use Rattle.bus_semantics.specs.Common.{slice_get_within, flat_map, list_all, list_any, slice_get, sum_by, option_map_or, AccessKind, elems_of, words_at, words_of_all, Plan, Runnable}
+use Rattle.bus_semantics.specs.Common.{every_from, plan_of, positions as bus_positions, accesses_elem, list_kind, list_sound, lists_sound, is_distinct, is_in, same_numbers, same_kind}
 use Rattle.runnable_lang.specs.declared.program.AccessKind.TheVariants as kind
-use Rattle.description_types.specs.declared.interface.DataElement.{DataElement}
-use Rattle.description_types.specs.declared.interface.SwImplPolicy.TheVariants.{Standard}
-use Rattle.description_types.specs.declared.component.Access.{Access}
-use Rattle.description_types.specs.declared.component.Component.{Component}
-use Rattle.description_types.specs.declared.component.ItemPair.{ItemPair}
-use Rattle.description_types.specs.declared.component.Port.{Port}
-use Rattle.description_types.specs.declared.component.PortKind.{PortKind}
-use Rattle.description_types.specs.declared.component.PortKind.TheVariants.{Provided, Required}
+use Rattle.plan_definitions.specs.Common.{DataElement, Standard, Access, Component, ItemPair, Port, PortKind, Provided, Required, Description, Flat, Instance, Among, comes_in, comes_once}
+use Rattle.plan_definitions.specs.Common.{listed, read_by, words_in, written_by, count, same_operation, elem_seen, elements, member_at, members, element_at, list_numbers, list_of, lists}
+use Rattle.plan_definitions.specs.Common.{lists_at, reads, runnable_at as runnable_in, from, positions, counted, counted_at, numbered, runnables_of, port_of, access_sig, provides_at, site}
+use Rattle.plan_definitions.specs.Common.{runnable_of, runnables, runnables_of_component, target_of, element_number, elements_of, IsWhole}
 use Rattle.description_types.specs.declared.component.Runnable as declared_runnable
-use Rattle.description_types.specs.declared.description.Description.{Description}
-use Rattle.description_types.specs.declared.flat.Flat.{Flat}
-use Rattle.description_types.specs.declared.flat.Instance.{Instance}
-use Rattle.description_types.specs.Members.{Among}
-use Rattle.bus_semantics.specs.declared.plan.BusPlan.{BusPlan}
-use Rattle.bus_semantics.specs.declared.plan.CoherentList.{CoherentList}
-use Rattle.bus_semantics.specs.declared.plan.ElemPlan.{ElemPlan}
-use Rattle.bus_semantics.specs.declared.script.Mapping.{Mapping}
-use Rattle.bus_semantics.specs.Lists.{elems_of, words_at, words_of_all}
-use Rattle.bus_semantics.specs.Plan.{Plan, Runnable, every_from, plan_of, positions as bus_positions}
-use Rattle.bus_semantics.specs.SoundLists.{accesses_elem, list_kind, list_sound, lists_sound}
-use Rattle.bus_semantics.specs.SoundPlan.{is_distinct, is_in, same_numbers}
-use Rattle.bus_semantics.specs.State.{same_kind}
+use Rattle.bus_laws.specs.Common.{BusPlan, CoherentList, ElemPlan, Mapping}
 use Rattle.plan_definitions.specs.declared.item.Item.TheVariants.{Data}
 use Rattle.plan_definitions.specs.declared.part.Part.TheVariants.{Runnables}
 use Rattle.plan_definitions.specs.declared.site.Site.{Site}
 use Rattle.plan_definitions.specs.declared.site.SiteKind.TheVariants as site_kind
 use Rattle.plan_definitions.specs.Coherent as coherent
-use Rattle.plan_definitions.specs.Coherent.{comes_in, comes_once, item_of, listed, read_by, words_in, written_by}
-use Rattle.plan_definitions.specs.Counts.{count, same_operation}
-use Rattle.plan_definitions.specs.Elements.{elem_seen, elements}
-use Rattle.plan_definitions.specs.ElementGroups.{member_at, members}
-use Rattle.plan_definitions.specs.Listed.{element_at, is_required, list_numbers, list_of, lists, lists_at, reads, runnable_at as runnable_in}
-use Rattle.plan_definitions.specs.Lists.{from, positions}
-use Rattle.plan_definitions.specs.Parts.{counted, counted_at, numbered, runnables_of}
-use Rattle.plan_definitions.specs.Ports.{port_of}
-use Rattle.plan_definitions.specs.Signatures.{access_sig, kind_at}
-use Rattle.plan_definitions.specs.Sites.{provides_at, site}
-use Rattle.plan_definitions.specs.Started.{runnable_of, runnables, runnables_of_component, target_of}
-use Rattle.plan_definitions.specs.Things.{element_number, elements_of}
-use Rattle.plan_definitions.specs.Whole.{IsWhole}
+use Rattle.plan_definitions.specs.Coherent.{item_of}
+use Rattle.plan_definitions.specs.Listed.{is_required}
+use Rattle.plan_definitions.specs.Signatures.{kind_at}
 use Rattle.plan_definitions.proofs.Lists.{all_from, at, many_positions, map_get, out_from, place, position_there, same_numbers_refl, unflat, unmapped}
 use Rattle.plan_definitions.proofs.Lists as lists_of_items
 use Rattle.sound_plans.proofs.Grouping.{same_positions}

@@ -1,24 +1,11 @@
 -- Groups of the plan are what chains of joins connect: in a star a chain is never longer than two joins.
 use Rattle.std.proofs.Common.{◌≡◌, ℕ, zero, suc, List, [], ◌∷◌, Option, Some, None, option_map, inl, inr, refl, sym, ap, subst, ◌∙◌, slice_get}
 use Rattle.std.proofs.lemmas.Option.{slice_get-map}
-use Rattle.description_types.specs.declared.description.Description.{Description}
+use Rattle.plan_definitions.specs.Common.{Description, refusal, End, Flat, Join, IsFlatOf, Among, end_of, partners, key_of, elements_of, Elem, elem_seen, element_of, group_of, IsWhole}
+use Rattle.plan_definitions.specs.Common.{IsWellFormed}
 use Rattle.plan_definitions.specs.JoinGroups.{IsJoined}
-use Rattle.plan_definitions.specs.JoinRefusals.{refusal}
-use Rattle.description_types.specs.declared.flat.End.{End}
-use Rattle.description_types.specs.declared.flat.Flat.{Flat}
-use Rattle.description_types.specs.declared.flat.Join.{Join}
-use Rattle.description_types.specs.Flattening.{IsFlatOf}
-use Rattle.description_types.specs.Members.{Among}
-use Rattle.bus_semantics.specs.declared.plan.BusPlan.{BusPlan}
-use Rattle.bus_semantics.specs.declared.plan.ElemPlan.{ElemPlan}
-use Rattle.bus_semantics.specs.declared.script.Mapping.{Mapping}
+use Rattle.bus_laws.specs.Common.{BusPlan, ElemPlan, Mapping}
 use Rattle.plan_definitions.specs.declared.site.Site.{Site}
-use Rattle.plan_definitions.specs.Joined.{end_of, partners}
-use Rattle.plan_definitions.specs.Keys.{key_of}
-use Rattle.plan_definitions.specs.Things.{elements_of}
-use Rattle.plan_definitions.specs.Elements.{Elem, elem_seen, element_of, group_of}
-use Rattle.plan_definitions.specs.Whole.{IsWhole}
-use Rattle.plan_definitions.specs.WellFormed.{IsWellFormed}
 use Rattle.sound_plans.specs.Connected.{AreConnected, AreJoined, Chain, GroupsAreConnected, group_at}
 use Rattle.sound_plans.proofs.Linked.{Linked, group_linked, linked_group, linked_then}
 use Rattle.plan_definitions.proofs.Lists.{at, map_get}

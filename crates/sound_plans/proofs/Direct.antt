@@ -1,51 +1,19 @@
 -- Direct servers make no calls, and the environment does not call them.
 use Rattle.std.proofs.Common.{◌≡◌, ℕ, ◌+◌, ◌<◌, Bool, true, false, cond, ◌&&◌, ◌||◌, not, refl, sym, ◌∙◌, ap, subst, arith, List, map, Option, Some, None, option_map, ◌⊎◌, inl, inr}
 use Rattle.std.specs.Prelude.{is_some, is_none}
-use Rattle.std.specs.List.{slice_get, list_all}
-use Rattle.std.specs.Option.{option_map_or}
-use Rattle.std.proofs.lemmas.Bool.{false≢true, and_from, and_parts, not-true, or_left, or_right}
-use Rattle.std.proofs.lemmas.Option.{same_Some, slice_get_within}
-use Rattle.std.proofs.lemmas.Map.Keys.{any_passes_from_place}
-use Rattle.rte_value.specs.Values.{same_number}
-use Rattle.runnable_lang.specs.declared.program.AccessKind.{AccessKind}
+use Rattle.bus_semantics.specs.Common.{slice_get, list_all, option_map_or, false≢true, and_from, and_parts, not-true, or_left, or_right, same_Some, slice_get_within, any_passes_from_place}
+use Rattle.bus_semantics.specs.Common.{same_number, AccessKind, AccessSig, Runnable, plan_of, look, every_from, direct_sound, same_kind}
 use Rattle.runnable_lang.specs.declared.program.AccessKind.TheVariants as kind
-use Rattle.runnable_lang.specs.declared.program.AccessSig.{AccessSig}
-use Rattle.description_types.specs.declared.interface.Interface.{Interface}
-use Rattle.description_types.specs.declared.interface.InterfaceKind.{InterfaceKind}
-use Rattle.description_types.specs.declared.interface.InterfaceKind.TheVariants.{ClientServer, ModeSwitch, SenderReceiver}
-use Rattle.description_types.specs.declared.interface.Operation.{Operation}
-use Rattle.description_types.specs.declared.component.Access.{Access}
+use Rattle.plan_definitions.specs.Common.{Interface, InterfaceKind, ClientServer, ModeSwitch, SenderReceiver, Operation, Access, Port, Description, End, Flat, Join, access_sig, is_mapped}
+use Rattle.plan_definitions.specs.Common.{is_call, may_be_direct, serves_outside, keeps_direct, end_at, provider_of, same_end, end_key, pair_number, events_of, runnables_of, site}
+use Rattle.plan_definitions.specs.Common.{interface_of, queue_length_of, server_number, servers_of, runnable_of, runnables, callings, operations_at, operation_count, outer_calling}
+use Rattle.plan_definitions.specs.Common.{is_numbered_mapped, point_of, points, servers, started_by, IsWhole}
 use Rattle.description_types.specs.declared.component.EventKind.TheVariants as declared_event
-use Rattle.description_types.specs.declared.component.Port.{Port}
 use Rattle.description_types.specs.declared.component.Runnable as declared_runnable
-use Rattle.description_types.specs.declared.description.Description.{Description}
-use Rattle.description_types.specs.declared.flat.End.{End}
-use Rattle.description_types.specs.declared.flat.Flat.{Flat}
-use Rattle.description_types.specs.declared.flat.Join.{Join}
-use Rattle.bus_semantics.specs.declared.plan.BusPlan.{BusPlan}
-use Rattle.bus_semantics.specs.declared.plan.ElemPlan.{ElemPlan}
-use Rattle.bus_semantics.specs.declared.plan.PointPlan.{PointPlan}
-use Rattle.bus_semantics.specs.declared.plan.ServerPlan.{ServerPlan}
-use Rattle.bus_semantics.specs.declared.script.Mapping.{Mapping}
-use Rattle.bus_semantics.specs.Plan.{Runnable, plan_of, look, every_from}
-use Rattle.bus_semantics.specs.SoundEvents.{direct_sound}
-use Rattle.bus_semantics.specs.State.{same_kind}
-use Rattle.plan_definitions.specs.Signatures.{access_sig}
-use Rattle.plan_definitions.specs.Mapped.{is_mapped}
-use Rattle.plan_definitions.specs.MappingRules.{is_call, may_be_direct, serves_outside, keeps_direct}
+use Rattle.bus_laws.specs.Common.{BusPlan, ElemPlan, PointPlan, ServerPlan, Mapping}
 use Rattle.plan_definitions.specs.declared.site.Site.{Site}
 use Rattle.plan_definitions.specs.declared.site.SiteKind.TheVariants.{Server}
-use Rattle.plan_definitions.specs.Joined.{end_at, provider_of, same_end}
-use Rattle.plan_definitions.specs.Keys.{end_key, pair_number}
-use Rattle.plan_definitions.specs.Parts.{events_of, runnables_of}
-use Rattle.plan_definitions.specs.Sites.{site}
-use Rattle.plan_definitions.specs.Ports.{interface_of, queue_length_of}
-use Rattle.plan_definitions.specs.Things.{server_number, servers_of}
-use Rattle.plan_definitions.specs.Started.{runnable_of, runnables}
 use Rattle.plan_definitions.specs.declared.calling.Calling.{Calling}
-use Rattle.plan_definitions.specs.Callings.{callings, operations_at, operation_count, outer_calling}
-use Rattle.plan_definitions.specs.Services.{is_numbered_mapped, point_of, points, servers, started_by}
-use Rattle.plan_definitions.specs.Whole.{IsWhole}
 use Rattle.plan_definitions.proofs.Lists.{there}
 use Rattle.plan_definitions.proofs.Keys.{same_end_refl}
 use Rattle.bus_laws.proofs.Thinning.{clash, option_same}

@@ -1,39 +1,15 @@
 -- Within an instance, and of one kind, no two things have one name.
 use Rattle.std.proofs.Common.{◌≡◌, ℕ, ◌+◌, List, [], ◌∷◌, map, slice_get, true, Option, Some, None, refl, sym, ap, subst, ◌∙◌}
 use mathlib.Core.List.{map-map}
-use Rattle.std.specs.List.{list_all}
-use Rattle.std.specs.Option.{option_map_or, unwrap_or}
-use Rattle.description_types.specs.declared.component.Component.{Component}
-use Rattle.description_types.specs.declared.component.Event.{Event}
+use Rattle.bus_semantics.specs.Common.{list_all, option_map_or, unwrap_or, Runnable, instance_of, Named, named_once, rank}
+use Rattle.plan_definitions.specs.Common.{Component, Event, Description, Flat, Instance, IsFlatOf, Among, AllApart, is_element, is_machine, is_mode_port, is_server, key_of, of_kind, from}
+use Rattle.plan_definitions.specs.Common.{sites, Elem, elem_seen, element_of, group_of, site_name, elements_of, has_machine, machines_of, mode_ports_of, servers_of, event_of}
+use Rattle.plan_definitions.specs.Common.{events_of_component, runnable_of, runnables_of_component, machine_at, machines, mode_port_at, server_of, area_of, areas_at, named_areas, plan_of}
+use Rattle.plan_definitions.specs.Common.{seen, IsWellFormed}
 use Rattle.description_types.specs.declared.component.Runnable as declared
-use Rattle.description_types.specs.declared.description.Description.{Description}
-use Rattle.description_types.specs.declared.flat.Flat.{Flat}
-use Rattle.description_types.specs.declared.flat.Instance.{Instance}
-use Rattle.description_types.specs.Flattening.{IsFlatOf}
-use Rattle.description_types.specs.Members.{Among, AllApart}
-use Rattle.bus_semantics.specs.declared.plan.AreaPlan.{AreaPlan}
-use Rattle.bus_semantics.specs.declared.plan.BusPlan.{BusPlan}
-use Rattle.bus_semantics.specs.declared.plan.ElemPlan.{ElemPlan}
-use Rattle.bus_semantics.specs.declared.plan.EventPlan.{EventPlan}
-use Rattle.bus_semantics.specs.declared.plan.MachinePlan.{MachinePlan}
-use Rattle.bus_semantics.specs.declared.plan.ModePortPlan.{ModePortPlan}
-use Rattle.bus_semantics.specs.declared.plan.ServerPlan.{ServerPlan}
+use Rattle.bus_laws.specs.Common.{AreaPlan, BusPlan, ElemPlan, EventPlan, MachinePlan, ModePortPlan, ServerPlan}
 use Rattle.bus_semantics.specs.Plan as bus
-use Rattle.bus_semantics.specs.Plan.{Runnable, instance_of}
-use Rattle.bus_semantics.specs.SoundNames.{Named, named_once}
-use Rattle.bus_semantics.specs.SoundPlan.{rank}
 use Rattle.plan_definitions.specs.declared.site.Site.{Site}
-use Rattle.plan_definitions.specs.Keys.{is_element, is_machine, is_mode_port, is_server, key_of, of_kind}
-use Rattle.plan_definitions.specs.Lists.{from}
-use Rattle.plan_definitions.specs.Sites.{sites}
-use Rattle.plan_definitions.specs.Elements.{Elem, elem_seen, element_of, group_of}
-use Rattle.plan_definitions.specs.Ports.{site_name}
-use Rattle.plan_definitions.specs.Things.{elements_of, has_machine, machines_of, mode_ports_of, servers_of}
-use Rattle.plan_definitions.specs.Started.{event_of, events_of_component, runnable_of, runnables_of_component}
-use Rattle.plan_definitions.specs.Modes.{machine_at, machines, mode_port_at}
-use Rattle.plan_definitions.specs.Services.{server_of}
-use Rattle.plan_definitions.specs.Planned.{area_of, areas_at, named_areas, plan_of, seen}
-use Rattle.plan_definitions.specs.WellFormed.{IsWellFormed}
 use Rattle.plan_definitions.proofs.Lists.{map_from, all_from}
 use Rattle.sound_plans.proofs.Apart.{all_apart, apart_filter, apart_finer, apart_map, distinct_apart, once}
 use Rattle.sound_plans.proofs.Homes.{event_home}

@@ -1,28 +1,14 @@
 -- Data elements and variables of the plan, by the numbers of their sites.
 use Rattle.std.proofs.Common.{◌≡◌, ℕ, Bool, false, List, map, length, Option, Some, None, option_map, option_and_then, refl, sym, ap, ◌∙◌, slice_get}
-use Rattle.std.specs.Option.{option_map_or}
-use Rattle.std.proofs.lemmas.Option.{slice_get_within}
-use Rattle.description_types.specs.declared.base_type.DataType.{DataType}
-use Rattle.description_types.specs.declared.interface.DataElement.{DataElement}
-use Rattle.description_types.specs.declared.interface.Interface.{Interface}
-use Rattle.description_types.specs.declared.interface.SwImplPolicy.{SwImplPolicy}
-use Rattle.description_types.specs.declared.component.Component.{Component}
-use Rattle.description_types.specs.declared.component.Port.{Port}
-use Rattle.description_types.specs.declared.component.PortKind.{PortKind}
-use Rattle.description_types.specs.declared.component.Variable.{Variable as DeclaredVariable}
-use Rattle.description_types.specs.declared.description.Description.{Description}
-use Rattle.description_types.specs.declared.flat.Flat.{Flat}
-use Rattle.bus_semantics.specs.declared.plan.ElemKind.{ElemKind}
+use Rattle.bus_semantics.specs.Common.{option_map_or, slice_get_within}
+use Rattle.plan_definitions.specs.Common.{DataType, DataElement, Interface, SwImplPolicy, Component, Port, PortKind, Variable as DeclaredVariable, Description, Flat, Elem, elem_seen}
+use Rattle.plan_definitions.specs.Common.{declared_at, type_of, limits_of, words_of, policy_kind, kind_of, element_of, group_of, elements, element_in, is_element, kind_at, count_at}
+use Rattle.plan_definitions.specs.Common.{shape_at, provides_at, site, port_of, element_number, elements_of}
+use Rattle.bus_laws.specs.Common.{ElemKind, ElemPlan}
 use Rattle.bus_semantics.specs.declared.plan.ElemKind.TheVariants as elem
-use Rattle.bus_semantics.specs.declared.plan.ElemPlan.{ElemPlan}
 use Rattle.plan_definitions.specs.declared.item.Item.TheVariants.{Data}
-use Rattle.plan_definitions.specs.Elements.{Elem, elem_seen, declared_at, type_of, limits_of, words_of, policy_kind, kind_of, element_of, group_of, elements, element_in}
 use Rattle.plan_definitions.specs.declared.site.Site.{Site}
 use Rattle.plan_definitions.specs.declared.site.SiteKind.TheVariants.{Element, Variable}
-use Rattle.plan_definitions.specs.Keys.{is_element}
-use Rattle.plan_definitions.specs.Sites.{kind_at, count_at, shape_at, provides_at, site}
-use Rattle.plan_definitions.specs.Ports.{port_of}
-use Rattle.plan_definitions.specs.Things.{element_number, elements_of}
 use Rattle.sound_plans.proofs.Places.{mapped, map_at}
 use Rattle.sound_plans.proofs.Parts.{Home, home_component}
 use Rattle.sound_plans.proofs.SiteNumbers.{ports_at_home, site_there, variable_there, numbered_kind, place_of}

@@ -1,39 +1,17 @@
 -- Data elements and variables of a plan: their types fit, and so do their initial words and their queues.
-use Rattle.std.proofs.Common.{◌≡◌, ℕ, ◌<◌, ◌≤◌, List, map, length, Bool, true, false, if◌then◌else◌, not, ◌&&◌, ◌||◌, ◌==◌, is_some, nat_lt, nat_le, ℤ, int_le, Option, Some, None, option_map, option_and_then, unwrap_or, ⊎_elim, refl, sym, ap, subst, ◌∙◌, slice_get}
-use Rattle.std.proofs.lemmas.Bool.{and_parts, leb-true}
-use Rattle.std.proofs.lemmas.List.Folds.{list_all-map}
-use Rattle.std.specs.List.{list_all}
-use Rattle.std.specs.Option.{option_map_or}
-use Rattle.rte_value.specs.Values.{same_words}
-use Rattle.description_types.specs.declared.base_type.DataType.{DataType}
-use Rattle.description_types.specs.declared.interface.ComSpec.{ComSpec}
-use Rattle.description_types.specs.declared.interface.DataElement.{DataElement}
-use Rattle.description_types.specs.declared.interface.Interface.{Interface}
-use Rattle.description_types.specs.declared.interface.InterfaceKind.TheVariants.{SenderReceiver}
-use Rattle.description_types.specs.declared.interface.SwImplPolicy.{SwImplPolicy}
-use Rattle.description_types.specs.declared.interface.SwImplPolicy.TheVariants.{Queued, Standard}
-use Rattle.description_types.specs.Ranges.{keeps_range}
-use Rattle.description_types.specs.declared.component.Component.{Component}
-use Rattle.description_types.specs.declared.component.Variable.{Variable as DeclaredVariable}
-use Rattle.description_types.specs.declared.description.Description.{Description}
-use Rattle.description_types.specs.Initials.{element_type, fits, fits_type, is_within, keeps, keeps_element, keeps_type, type_in}
-use Rattle.description_types.specs.declared.flat.Flat.{Flat}
-use Rattle.description_types.specs.Members.{Among}
-use Rattle.bus_semantics.specs.declared.plan.BusPlan.{BusPlan}
-use Rattle.bus_semantics.specs.declared.plan.ElemKind.{ElemKind}
+use Rattle.std.proofs.Common.{◌≡◌, ℕ, ◌<◌, ◌≤◌, List, map, length, Bool, true, false, if◌then◌else◌, not, ◌&&◌, ◌||◌, ◌==◌, is_some, nat_lt, nat_le, ℤ, int_le, Option, Some, None}
+use Rattle.std.proofs.Common.{option_map, option_and_then, unwrap_or, ⊎_elim, refl, sym, ap, subst, ◌∙◌, slice_get}
+use Rattle.bus_semantics.specs.Common.{and_parts, leb-true, list_all-map, list_all, option_map_or, same_words, elem_sound, limits_fit, zeros, is_in}
+use Rattle.plan_definitions.specs.Common.{DataType, ComSpec, DataElement, Interface, SenderReceiver, SwImplPolicy, Queued, Standard, keeps_range, Component, Variable as DeclaredVariable}
+use Rattle.plan_definitions.specs.Common.{Description, element_type, fits_type, is_within, keeps, keeps_element, keeps_type, Flat, Among, is_element, count_at, kind_at, provides_at, site}
+use Rattle.plan_definitions.specs.Common.{sites, com_spec_of, queue_length_of, elements_of, Elem, declared_at, elem_seen, element_in, element_of, elements, group_of, held, keeps_last}
+use Rattle.plan_definitions.specs.Common.{keeps_queue, limits_of, policy_kind, variable_at, words_of, zeros as type_zeros, IsWellFormed, items_at, kind_fits, names_fit, type_fits}
+use Rattle.plan_definitions.specs.Common.{variable_fits, IsWhole}
+use Rattle.description_types.specs.Initials.{fits, type_in}
+use Rattle.bus_laws.specs.Common.{BusPlan, ElemKind, Mapping}
 use Rattle.bus_semantics.specs.declared.plan.ElemKind.TheVariants as kind
-use Rattle.bus_semantics.specs.declared.script.Mapping.{Mapping}
-use Rattle.bus_semantics.specs.SoundElements.{elem_sound, limits_fit, zeros}
-use Rattle.bus_semantics.specs.SoundPlan.{is_in}
 use Rattle.plan_definitions.specs.declared.site.Site.{Site}
 use Rattle.plan_definitions.specs.declared.site.SiteKind.TheVariants as site_kind
-use Rattle.plan_definitions.specs.Keys.{is_element}
-use Rattle.plan_definitions.specs.Sites.{count_at, kind_at, provides_at, site, sites}
-use Rattle.plan_definitions.specs.Ports.{com_spec_of, queue_length_of}
-use Rattle.plan_definitions.specs.Things.{elements_of}
-use Rattle.plan_definitions.specs.Elements.{Elem, declared_at, elem_seen, element_in, element_of, elements, group_of, held, keeps_last, keeps_queue, limits_of, policy_kind, variable_at, words_of, zeros as type_zeros}
-use Rattle.plan_definitions.specs.WellFormed.{IsWellFormed, items_at, kind_fits, names_fit, type_fits, variable_fits}
-use Rattle.plan_definitions.specs.Whole.{IsWhole}
 use Rattle.sound_plans.proofs.Kept.{com_spec_keeps, component_keeps, interface_is, queue_keeps, some_type, variables_keep}
 use Rattle.plan_definitions.proofs.Lists.{all_at, all_from, at, there, unkept, unmapped}
 use Rattle.plan_definitions.proofs.Sites.{AtPort, IsVariable, is_site, with_port}

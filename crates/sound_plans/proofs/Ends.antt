@@ -1,28 +1,11 @@
 -- Joined data elements: both are elements of the plan, the one provided and the other required, and they agree in kind, limits and
 -- words.
 use Rattle.std.proofs.Common.{◌≡◌, ℕ, List, [], ◌∷◌, map, Bool, true, false, not, Option, Some, None, option_map, option_and_then, inl, inr, refl, sym, ap, subst, ◌∙◌, true≢false}
-use Rattle.std.proofs.lemmas.Bool.{and_parts, not-true}
-use Rattle.std.specs.List.{list_any}
-use Rattle.rte_value.specs.declared.kinds.Limits.{Limits}
-use Rattle.description_types.specs.declared.base_type.DataType.{DataType}
-use Rattle.description_types.specs.declared.component.Port.{Port}
-use Rattle.description_types.specs.declared.component.PortKind.{PortKind}
-use Rattle.description_types.specs.declared.component.PortKind.TheVariants.{Provided, Required}
-use Rattle.description_types.specs.declared.description.Description.{Description}
-use Rattle.plan_definitions.specs.Connectors.{incompatible}
-use Rattle.description_types.specs.declared.flat.Flat.{Flat}
-use Rattle.description_types.specs.declared.flat.Join.{Join}
-use Rattle.description_types.specs.Flattening.{IsFlatOf}
-use Rattle.description_types.specs.Items.{ItemsJoin, interface_at}
-use Rattle.description_types.specs.Joined.{IsJoined, Stand, interface_below, stand_in}
-use Rattle.description_types.specs.Members.{Among}
+use Rattle.bus_semantics.specs.Common.{and_parts, not-true, list_any, Limits, same_numbers}
+use Rattle.plan_definitions.specs.Common.{DataType, Port, PortKind, Provided, Required, Description, incompatible, Flat, Join, IsFlatOf, ItemsJoin, interface_at, IsJoined, Stand}
+use Rattle.plan_definitions.specs.Common.{interface_below, stand_in, Among, provides_at, port_of, kind_of, limits_of, type_of, words_of, distinct}
 use Rattle.bus_semantics.specs.declared.plan.ElemKind.{ElemKind}
-use Rattle.bus_semantics.specs.SoundPlan.{same_numbers}
 use Rattle.plan_definitions.specs.declared.site.Site.{Site}
-use Rattle.plan_definitions.specs.Sites.{provides_at}
-use Rattle.plan_definitions.specs.Ports.{port_of}
-use Rattle.plan_definitions.specs.Elements.{kind_of, limits_of, type_of, words_of}
-use Rattle.plan_definitions.specs.WellFormed.{distinct}
 use Rattle.plan_definitions.proofs.Chains.{Faces, are_joined}
 use Rattle.plan_definitions.proofs.Lists.{any_from, mapped, same_numbers_refl}
 use Rattle.sound_plans.proofs.PassingElements.{Passes, SameTypes, passed}

@@ -1,49 +1,22 @@
 -- Events are sound: what they name is there and is of their instance.
 use Rattle.std.proofs.Common.{◌≡◌, ℕ, ◌+◌, Bool, true, false, ◌&&◌, ◌||◌, not, ◌==◌, refl, sym, ◌∙◌, ap, subst, arith, List, map, length, Option, Some, None, option_map}
 use Rattle.std.specs.Prelude.{nat_lt, nat_le}
-use Rattle.std.specs.List.{slice_get, list_all}
-use Rattle.std.proofs.lemmas.Bool.{false≢true, eqb-true, eq-eqb, and_from, and_parts, le-leb, lt-ltb, ltb-false, or_left, or_parts, or_right}
-use Rattle.std.proofs.lemmas.Option.{slice_get_within}
-use Rattle.std.proofs.lemmas.Map.Keys.{any_passes_from_place}
-use Rattle.rte_value.specs.Values.{same_number}
-use Rattle.description_types.specs.declared.interface.Interface.{Interface}
-use Rattle.description_types.specs.declared.interface.SwImplPolicy.{SwImplPolicy}
-use Rattle.description_types.specs.declared.interface.SwImplPolicy.TheVariants.{Standard, Queued}
-use Rattle.description_types.specs.declared.component.Component.{Component}
-use Rattle.description_types.specs.declared.component.DisabledInModes.{DisabledInModes}
+use Rattle.bus_semantics.specs.Common.{slice_get, list_all, false≢true, eqb-true, eq-eqb, and_from, and_parts, le-leb, lt-ltb, ltb-false, or_left, or_parts, or_right, slice_get_within}
+use Rattle.bus_semantics.specs.Common.{any_passes_from_place, same_number, modes_of, plan_of, every_from, instance_of, moment_sound, requires_machine, kind_sound, may_be_disabled}
+use Rattle.bus_semantics.specs.Common.{disabling_sound, is_invoked, event_sound, is_variable}
+use Rattle.plan_definitions.specs.Common.{Interface, SwImplPolicy, Standard, Queued, Component, DisabledInModes, ModeActivation, Provided, Required, Description, Flat, item_at}
+use Rattle.plan_definitions.specs.Common.{plan_of as whole_plan, queue_lengths, things, elem_seen, elements, policy_kind, pair_number, events_of, runnables_of, element_number, machine_for}
+use Rattle.plan_definitions.specs.Common.{machine_number, mode_port_number, server_number, moment_of, disabling_of, events, runnables, machines, mode_ports, mode_port_at, server_at, servers}
+use Rattle.plan_definitions.specs.Common.{started_by, IsWhole}
 use Rattle.description_types.specs.declared.component.EventKind as declared_kind
 use Rattle.description_types.specs.declared.component.EventKind.TheVariants as declared_event
-use Rattle.description_types.specs.declared.component.ModeActivation.{ModeActivation}
 use Rattle.description_types.specs.declared.component.ModeActivation.TheVariants as activation
-use Rattle.description_types.specs.declared.component.PortKind.TheVariants.{Provided, Required}
 use Rattle.description_types.specs.declared.component.Runnable as declared_runnable
-use Rattle.description_types.specs.declared.description.Description.{Description}
-use Rattle.description_types.specs.declared.flat.Flat.{Flat}
-use Rattle.bus_semantics.specs.declared.plan.BusPlan.{BusPlan}
-use Rattle.bus_semantics.specs.declared.plan.ElemPlan.{ElemPlan}
-use Rattle.bus_semantics.specs.declared.plan.EventPlan.{EventPlan}
-use Rattle.bus_semantics.specs.declared.plan.MachinePlan.{MachinePlan}
-use Rattle.bus_semantics.specs.declared.plan.ModePortPlan.{ModePortPlan}
-use Rattle.bus_semantics.specs.declared.plan.ServerPlan.{ServerPlan}
-use Rattle.bus_semantics.specs.declared.script.Mapping.{Mapping}
-use Rattle.bus_semantics.specs.Owners.{modes_of}
-use Rattle.bus_semantics.specs.Plan.{plan_of, every_from, instance_of}
-use Rattle.bus_semantics.specs.SoundEvents.{moment_sound, requires_machine, kind_sound, may_be_disabled, disabling_sound, is_invoked, event_sound}
-use Rattle.bus_semantics.specs.SoundPlan.{is_variable}
+use Rattle.bus_laws.specs.Common.{BusPlan, ElemPlan, EventPlan, MachinePlan, ModePortPlan, ServerPlan, Mapping}
 use Rattle.plan_definitions.specs.declared.item.Item.TheVariants.{Data, Modes}
 use Rattle.plan_definitions.specs.Events as starting
-use Rattle.plan_definitions.specs.Items.{item_at}
-use Rattle.plan_definitions.specs.Planned.{plan_of as whole_plan}
-use Rattle.plan_definitions.specs.PlanRules.{queue_lengths, things}
-use Rattle.plan_definitions.specs.Elements.{elem_seen, elements, policy_kind}
-use Rattle.plan_definitions.specs.Keys.{pair_number}
-use Rattle.plan_definitions.specs.Parts.{events_of, runnables_of}
-use Rattle.plan_definitions.specs.Things.{element_number, machine_for, machine_number, mode_port_number, server_number}
-use Rattle.plan_definitions.specs.Started.{moment_of, kind_of, disabling_of, events, runnables}
-use Rattle.plan_definitions.specs.Modes.{machines, mode_ports, mode_port_at}
-use Rattle.plan_definitions.specs.Services.{server_at, servers, started_by}
+use Rattle.plan_definitions.specs.Started.{kind_of}
 use Rattle.plan_definitions.specs.WellFormed as formed
-use Rattle.plan_definitions.specs.Whole.{IsWhole}
 use Rattle.bus_laws.proofs.Thinning.{option_test}
 use Rattle.sound_plans.proofs.Places.{every_if, looked}
 use Rattle.sound_plans.proofs.Parts.{Home, same_home, EventAt, event_at, runnable_there, numbers_apart, runnable_count}

@@ -1,32 +1,12 @@
 -- The instances that a plan names are its instances.
 use Rattle.std.proofs.Common.{◌≡◌, ℕ, [], ◌∷◌, length, true, Option, Some, None, ⊎_elim, refl, sym, ap, subst, ◌∙◌, arith}
-use Rattle.std.proofs.lemmas.Bool.{lt-ltb, and_from}
-use Rattle.std.proofs.lemmas.List.Folds.{list_all-map}
-use Rattle.std.proofs.lemmas.Option.{slice_get_within}
-use Rattle.std.specs.List.{list_all}
-use Rattle.std.specs.Option.{unwrap_or}
-use Rattle.description_types.specs.declared.description.Description.{Description}
-use Rattle.description_types.specs.declared.flat.Flat.{Flat}
-use Rattle.description_types.specs.declared.flat.Instance.{Instance}
-use Rattle.description_types.specs.Members.{Among}
-use Rattle.bus_semantics.specs.declared.plan.AreaPlan.{AreaPlan}
-use Rattle.bus_semantics.specs.declared.plan.BusPlan.{BusPlan}
-use Rattle.bus_semantics.specs.declared.plan.ElemPlan.{ElemPlan}
-use Rattle.bus_semantics.specs.declared.plan.MachinePlan.{MachinePlan}
-use Rattle.bus_semantics.specs.declared.plan.ModePortPlan.{ModePortPlan}
-use Rattle.bus_semantics.specs.declared.plan.ServerPlan.{ServerPlan}
+use Rattle.bus_semantics.specs.Common.{lt-ltb, and_from, list_all-map, slice_get_within, list_all, unwrap_or, Runnable, instance_exists, instances_exist}
+use Rattle.plan_definitions.specs.Common.{Description, Flat, Instance, Among, is_element, is_machine, is_mode_port, is_server, of_kind, sites, Elem, elem_seen, element_of, elements}
+use Rattle.plan_definitions.specs.Common.{group_of, elements_of, has_machine, machines_of, mode_ports_of, servers_of, runnable_of, runnables_of_component, runnables, machine_at, machines}
+use Rattle.plan_definitions.specs.Common.{mode_port_at, mode_ports, server_of, servers, areas, areas_at, area_of, named_areas, plan_of, seen}
+use Rattle.bus_laws.specs.Common.{AreaPlan, BusPlan, ElemPlan, MachinePlan, ModePortPlan, ServerPlan}
 use Rattle.bus_semantics.specs.Plan as bus
-use Rattle.bus_semantics.specs.Plan.{Runnable}
-use Rattle.bus_semantics.specs.SoundPlan.{instance_exists, instances_exist}
 use Rattle.plan_definitions.specs.declared.site.Site.{Site}
-use Rattle.plan_definitions.specs.Keys.{is_element, is_machine, is_mode_port, is_server, of_kind}
-use Rattle.plan_definitions.specs.Sites.{sites}
-use Rattle.plan_definitions.specs.Elements.{Elem, elem_seen, element_of, elements, group_of}
-use Rattle.plan_definitions.specs.Things.{elements_of, has_machine, machines_of, mode_ports_of, servers_of}
-use Rattle.plan_definitions.specs.Started.{runnable_of, runnables_of_component, runnables}
-use Rattle.plan_definitions.specs.Modes.{machine_at, machines, mode_port_at, mode_ports}
-use Rattle.plan_definitions.specs.Services.{server_of, servers}
-use Rattle.plan_definitions.specs.Planned.{areas, areas_at, area_of, named_areas, plan_of, seen}
 use Rattle.plan_definitions.proofs.Lists.{all_from}
 use Rattle.sound_plans.proofs.Lists.{filtered, mapped, pieces}
 use Rattle.sound_plans.proofs.Numbers.{of_instances_is}

@@ -1,28 +1,16 @@
 -- Rule 15 at each required data element, and the rules 12 and 15 out of what is not refused.
-use Rattle.std.proofs.Common.{◌≡◌, ℕ, zero, suc, ◌+◌, ◌<◌, List, [], ◌∷◌, length, filter, Bool, true, false, not, ◌&&◌, if◌then◌else◌, Option, Some, None, option_and_then, ◌⊎◌, inl, inr, ⊎_elim, refl, sym, ap, subst, ◌∙◌, arith, slice_get}
+use Rattle.std.proofs.Common.{◌≡◌, ℕ, zero, suc, ◌+◌, ◌<◌, List, [], ◌∷◌, length, filter, Bool, true, false, not, ◌&&◌, if◌then◌else◌, Option, Some, None, option_and_then, ◌⊎◌, inl, inr}
+use Rattle.std.proofs.Common.{⊎_elim, refl, sym, ap, subst, ◌∙◌, arith, slice_get}
 use Rattle.std.proofs.lemmas.Bool.{and_cases, not-false}
 use Rattle.std.specs.Option.{option_map_or}
-use Rattle.description_types.specs.declared.interface.DataElement.{DataElement}
-use Rattle.description_types.specs.declared.interface.Interface.{Interface}
-use Rattle.description_types.specs.declared.interface.InterfaceKind.TheVariants.{SenderReceiver}
-use Rattle.description_types.specs.declared.component.Component.{Component as DeclaredComponent}
-use Rattle.description_types.specs.declared.component.Port.{Port}
-use Rattle.description_types.specs.declared.component.PortKind.{PortKind}
-use Rattle.description_types.specs.declared.component.PortKind.TheVariants.{Provided, Required}
-use Rattle.description_types.specs.declared.description.Description.{Description}
+use Rattle.plan_definitions.specs.Common.{DataElement, Interface, SenderReceiver, Component as DeclaredComponent, Port, PortKind, Provided, Required, Description, incompatible, first_broken}
+use Rattle.plan_definitions.specs.Common.{first_item, first_number, in_instances, in_port, in_ports, requires_at, are_several, crowds, is_crowded, is_many_to_many, providers, requirers}
+use Rattle.plan_definitions.specs.Common.{item_refusal, of_connectors, of_items, of_root_ports, port_refusal, refusal, End, Flat, Instance, Join, Among, provides_at, port_of}
 use Rattle.description_types.specs.declared.description.PrototypeType.TheVariants.{Component, Composition}
 use Rattle.plan_definitions.specs.declared.join_rule.JoinRule.TheVariants.{Groups, Services}
-use Rattle.plan_definitions.specs.Connectors.{incompatible, ports_of}
-use Rattle.plan_definitions.specs.JoinedItems.{end_of as item_end, first_broken, first_item, first_number, in_instances, in_port, in_ports, requires_at}
-use Rattle.plan_definitions.specs.Joins.{are_several, crowds, is_crowded, is_many_to_many, providers, requirers, same_end}
-use Rattle.plan_definitions.specs.JoinRefusals.{item_refusal, of_connectors, of_items, of_root_ports, port_refusal, refusal}
-use Rattle.description_types.specs.declared.flat.End.{End}
-use Rattle.description_types.specs.declared.flat.Flat.{Flat}
-use Rattle.description_types.specs.declared.flat.Instance.{Instance}
-use Rattle.description_types.specs.declared.flat.Join.{Join}
-use Rattle.description_types.specs.Members.{Among}
-use Rattle.plan_definitions.specs.Sites.{provides_at}
-use Rattle.plan_definitions.specs.Ports.{port_of}
+use Rattle.plan_definitions.specs.Connectors.{ports_of}
+use Rattle.plan_definitions.specs.JoinedItems.{end_of as item_end}
+use Rattle.plan_definitions.specs.Joins.{same_end}
 use Rattle.plan_definitions.proofs.Lists.{kept, mapped, none_at}
 use Rattle.plan_definitions.proofs.Keys.{same_end_is, same_end_refl}
 use Rattle.plan_definitions.proofs.Firsts.{first_none, map_none, or_none}

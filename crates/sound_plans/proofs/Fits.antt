@@ -1,19 +1,10 @@
 -- Accesses fit: what the port of an access has, by its kind.
 use Rattle.std.proofs.Common.{◌≡◌, ℕ, true, false, cond, refl, sym, ap, ◌∙◌, List, Option, Some, None}
-use Rattle.std.specs.Option.{option_map_or}
-use Rattle.std.proofs.lemmas.Bool.{false≢true}
-use Rattle.runnable_lang.specs.declared.program.AccessKind.{AccessKind}
+use Rattle.bus_semantics.specs.Common.{option_map_or, false≢true, AccessKind}
 use Rattle.runnable_lang.specs.declared.program.AccessKind.TheVariants as kind
-use Rattle.description_types.specs.declared.interface.SwImplPolicy.TheVariants.{Standard, Queued}
-use Rattle.description_types.specs.declared.interface.TypeTable.{TypeTable}
-use Rattle.description_types.specs.declared.component.Access.{Access}
-use Rattle.description_types.specs.declared.component.Port.{Port}
-use Rattle.description_types.specs.declared.component.PortKind.{PortKind}
-use Rattle.description_types.specs.declared.component.PortKind.TheVariants.{Provided, Required}
+use Rattle.plan_definitions.specs.Common.{Standard, Queued, TypeTable, Access, Port, PortKind, Provided, Required, names_port, fits, access_fits, item_at}
 use Rattle.plan_definitions.specs.declared.item.Item.{Item}
 use Rattle.plan_definitions.specs.declared.item.Item.TheVariants.{Data, Operation, Modes}
-use Rattle.plan_definitions.specs.Accesses.{names_port, fits, access_fits}
-use Rattle.plan_definitions.specs.Items.{item_at}
 
 -- what an access of a kind needs
 abbrev pub Needs : AccessKind → PortKind → Item → Type 0

@@ -1,13 +1,8 @@
 -- Each group lists exactly its members, in rising order, and the groups stand in order of their first members.
-use Rattle.std.proofs.Common.{◌≡◌, ℕ, zero, suc, ◌+◌, ◌<◌, List, [], ◌∷◌, ◌++◌, length, map, filter, Bool, true, false, cond, not, ◌&&◌, ◌==◌, nat_eq, nat_lt, Some, refl, sym, ap, subst, ◌∙◌, arith, slice_get}
-use Rattle.std.proofs.lemmas.Bool.{and_from, eq-eqb, lt-ltb, ne_eqb}
-use Rattle.std.proofs.lemmas.List.Folds.{list_all-map}
-use Rattle.std.specs.List.{list_all}
-use Rattle.description_types.specs.Members.{Among}
-use Rattle.plan_definitions.specs.Lists.{from, positions}
-use Rattle.plan_definitions.specs.ElementGroups.{group_number, groups, heads, member_at, members}
-use Rattle.bus_semantics.specs.Plan.{every_from, positions as bus_positions}
-use Rattle.bus_semantics.specs.SoundPlan.{first_of, firsts, is_rising, same_numbers}
+use Rattle.std.proofs.Common.{◌≡◌, ℕ, zero, suc, ◌+◌, ◌<◌, List, [], ◌∷◌, ◌++◌, length, map, filter, Bool, true, false, cond, not, ◌&&◌, ◌==◌, nat_eq, nat_lt, Some, refl, sym, ap, subst}
+use Rattle.std.proofs.Common.{◌∙◌, arith, slice_get}
+use Rattle.bus_semantics.specs.Common.{and_from, eq-eqb, lt-ltb, ne_eqb, list_all-map, list_all, every_from, positions as bus_positions, first_of, firsts, is_rising, same_numbers}
+use Rattle.plan_definitions.specs.Common.{Among, from, positions, group_number, groups, heads, member_at, members}
 use Rattle.plan_definitions.proofs.Lists.{all_from, as_many, place, same_numbers_refl, there, unmapped}
 use Rattle.sound_plans.proofs.Heads.{AreLow, first_is, groups_rise, number_within}
 

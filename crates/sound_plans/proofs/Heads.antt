@@ -1,13 +1,9 @@
 -- Groups that are numbered by their least elements, which no element has after it.
-use Rattle.std.proofs.Common.{◌≡◌, ℕ, zero, suc, ◌+◌, ◌<◌, ◌≤◌, List, [], ◌∷◌, ◌++◌, length, map, Bool, true, false, cond, nat_eq, nat_le, Option, Some, None, inl, inr, refl, sym, ap, subst, ◌∙◌, arith, slice_get}
-use Rattle.std.proofs.lemmas.Bool.{and_from, eq-eqb, eqb-true, eqb-false, le-leb, ne_eqb}
-use Rattle.std.proofs.lemmas.Option.{slice_get_within}
-use Rattle.std.specs.List.{list_all, position_from}
-use Rattle.std.specs.Option.{unwrap_or}
-use Rattle.description_types.specs.Members.{Among}
-use Rattle.plan_definitions.specs.Lists.{from, positions}
-use Rattle.plan_definitions.specs.ElementGroups.{group_number, groups, head_at, heads, member_at, members, number_among}
-use Rattle.bus_semantics.specs.SoundPlan.{first_of, firsts, is_rising}
+use Rattle.std.proofs.Common.{◌≡◌, ℕ, zero, suc, ◌+◌, ◌<◌, ◌≤◌, List, [], ◌∷◌, ◌++◌, length, map, Bool, true, false, cond, nat_eq, nat_le, Option, Some, None, inl, inr, refl, sym, ap, subst}
+use Rattle.std.proofs.Common.{◌∙◌, arith, slice_get}
+use Rattle.bus_semantics.specs.Common.{and_from, eq-eqb, eqb-true, le-leb, ne_eqb, slice_get_within, list_all, position_from, unwrap_or, first_of, firsts, is_rising}
+use Rattle.std.proofs.lemmas.Bool.{eqb-false}
+use Rattle.plan_definitions.specs.Common.{Among, from, positions, group_number, groups, head_at, heads, member_at, members, number_among}
 use Rattle.plan_definitions.proofs.Lists.{all_from, at, get_map, in_from, map_get, out_from}
 
 -- ---- heads

@@ -1,19 +1,9 @@
 -- The instances of runnables and events.
 use Rattle.std.proofs.Common.{◌≡◌, ℕ, ◌<◌, map, length, slice_get, Some, None, nat_lt, ap, ◌∙◌}
-use Rattle.std.proofs.lemmas.Bool.{and_parts, ltb-true}
-use Rattle.std.specs.Option.{option_map_or}
-use Rattle.description_types.specs.declared.description.Description.{Description}
-use Rattle.description_types.specs.declared.flat.Flat.{Flat}
-use Rattle.description_types.specs.Members.{Among}
-use Rattle.bus_semantics.specs.declared.plan.BusPlan.{BusPlan}
-use Rattle.bus_semantics.specs.declared.plan.EventPlan.{EventPlan}
+use Rattle.bus_semantics.specs.Common.{and_parts, ltb-true, option_map_or, Runnable, instance_of}
+use Rattle.plan_definitions.specs.Common.{Description, Flat, Among, pair_number, runnables_of, event_of, plan_of, seen, event_fits, IsWellFormed}
+use Rattle.bus_laws.specs.Common.{BusPlan, EventPlan}
 use Rattle.bus_semantics.specs.Plan as bus
-use Rattle.bus_semantics.specs.Plan.{Runnable, instance_of}
-use Rattle.plan_definitions.specs.Keys.{pair_number}
-use Rattle.plan_definitions.specs.Parts.{runnables_of}
-use Rattle.plan_definitions.specs.Started.{event_of}
-use Rattle.plan_definitions.specs.Planned.{plan_of, seen}
-use Rattle.plan_definitions.specs.WellFormed.{event_fits, IsWellFormed}
 use Rattle.sound_plans.proofs.Keeping.{of_component}
 use Rattle.sound_plans.proofs.Lists.{all_at, mapped}
 use Rattle.sound_plans.proofs.Numbers.{runnable_at}

@@ -1,22 +1,9 @@
 -- The names of ports, items and variables are names.
 use Rattle.std.proofs.Common.{◌≡◌, ℕ, ◌<◌, List, [], ◌++◌, map, length, slice_get, true, codes, Option, Some, option_map, option_and_then, ap, ◌∙◌}
-use Rattle.std.proofs.lemmas.Bool.{and_parts}
-use Rattle.std.specs.Option.{option_map_or}
-use Rattle.description_types.specs.declared.interface.DataElement.{DataElement}
-use Rattle.description_types.specs.declared.interface.Interface.{Interface}
-use Rattle.description_types.specs.declared.interface.InterfaceKind.{InterfaceKind}
-use Rattle.description_types.specs.declared.interface.InterfaceKind.TheVariants.{SenderReceiver, ClientServer, ModeSwitch}
-use Rattle.description_types.specs.declared.interface.Operation.{Operation}
-use Rattle.description_types.specs.declared.interface.TypeTable.{TypeTable}
-use Rattle.description_types.specs.declared.component.Component.{Component}
-use Rattle.description_types.specs.declared.component.Port.{Port}
-use Rattle.description_types.specs.declared.component.Variable.{Variable}
-use Rattle.description_types.specs.declared.description.Description.{Description}
-use Rattle.description_types.specs.declared.flat.Flat.{Flat}
-use Rattle.bus_semantics.specs.SoundNames.{is_name, is_pair_name}
+use Rattle.bus_semantics.specs.Common.{and_parts, option_map_or, is_name, is_pair_name}
+use Rattle.plan_definitions.specs.Common.{DataElement, Interface, InterfaceKind, SenderReceiver, ClientServer, ModeSwitch, Operation, TypeTable, Component, Port, Variable, Description, Flat}
+use Rattle.plan_definitions.specs.Common.{interface_of, item_name, item_text, port_name, ports_of, site_name, variable_name, item_count, kind_fits, names_fit, IsWellFormed}
 use Rattle.plan_definitions.specs.declared.site.Site.{Site}
-use Rattle.plan_definitions.specs.Ports.{interface_of, item_name, item_text, port_name, ports_of, site_name, variable_name}
-use Rattle.plan_definitions.specs.WellFormed.{item_count, kind_fits, names_fit, IsWellFormed}
 use Rattle.plan_definitions.proofs.Lists.{at as get_among, there as get_some}
 use Rattle.sound_plans.proofs.Keeping.{Names, names_from, of_component, of_interface, of_ports}
 use Rattle.sound_plans.proofs.Lists.{all_at, map_has}

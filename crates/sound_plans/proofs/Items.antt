@@ -1,24 +1,11 @@
 -- What ports have: data elements, operations and modes, from the rules on accesses and events.
 use Rattle.std.proofs.Common.{◌≡◌, ℕ, true, refl, ◌∙◌, ap, List, length, Option, Some, None, option_map, option_and_then}
-use Rattle.std.specs.List.{slice_get}
-use Rattle.std.proofs.lemmas.Bool.{false≢true}
-use Rattle.std.proofs.lemmas.Option.{same_Some}
-use Rattle.description_types.specs.declared.interface.DataElement.{DataElement}
-use Rattle.description_types.specs.declared.interface.Interface.{Interface}
-use Rattle.description_types.specs.declared.interface.InterfaceKind.{InterfaceKind}
-use Rattle.description_types.specs.declared.interface.InterfaceKind.TheVariants.{SenderReceiver, ClientServer, ModeSwitch}
-use Rattle.description_types.specs.declared.interface.ModeElement.{ModeElement}
-use Rattle.description_types.specs.declared.interface.ModeGroup.{ModeGroup}
+use Rattle.bus_semantics.specs.Common.{slice_get, false≢true, same_Some}
+use Rattle.plan_definitions.specs.Common.{DataElement, Interface, InterfaceKind, SenderReceiver, ClientServer, ModeSwitch, ModeElement, ModeGroup, SwImplPolicy, TypeTable, Port, PortKind}
+use Rattle.plan_definitions.specs.Common.{Provided, Required, requires_data, provides_operation, provides_modes, required_modes, item_of, item_of_port, item_at}
 use Rattle.description_types.specs.declared.interface.Operation as declared_operation
-use Rattle.description_types.specs.declared.interface.SwImplPolicy.{SwImplPolicy}
-use Rattle.description_types.specs.declared.interface.TypeTable.{TypeTable}
-use Rattle.description_types.specs.declared.component.Port.{Port}
-use Rattle.description_types.specs.declared.component.PortKind.{PortKind}
-use Rattle.description_types.specs.declared.component.PortKind.TheVariants.{Provided, Required}
 use Rattle.plan_definitions.specs.declared.item.Item.{Item}
 use Rattle.plan_definitions.specs.declared.item.Item.TheVariants.{Data, Operation, Modes}
-use Rattle.plan_definitions.specs.Events.{requires_data, provides_operation, provides_modes, required_modes}
-use Rattle.plan_definitions.specs.Items.{item_of, item_of_port, item_at}
 use Rattle.sound_plans.proofs.Places.{not_some}
 
 pub record ItemAt (types : TypeTable) (ports : List Port) (k n : ℕ) (side : PortKind) (item : Item) : Type 0 where

@@ -1,32 +1,13 @@
 -- The sites of joined data elements: both are elements of the plan, and they agree in kind, limits and words.
 use Rattle.std.proofs.Common.{◌≡◌, ℕ, ◌<◌, List, map, length, Bool, true, false, nat_lt, Option, Some, None, option_map, option_and_then, ⊎_elim, refl, sym, ap, subst, ◌∙◌, slice_get}
-use Rattle.std.proofs.lemmas.Bool.{and_parts}
-use Rattle.std.proofs.lemmas.Option.{slice_get_within}
-use Rattle.std.specs.List.{list_all}
-use Rattle.std.specs.Option.{option_map_or}
-use Rattle.description_types.specs.declared.interface.DataElement.{DataElement}
-use Rattle.description_types.specs.declared.interface.Interface.{Interface}
-use Rattle.description_types.specs.declared.interface.InterfaceKind.{InterfaceKind}
-use Rattle.description_types.specs.declared.interface.InterfaceKind.TheVariants.{ClientServer, ModeSwitch, SenderReceiver}
-use Rattle.description_types.specs.declared.component.Port.{Port}
-use Rattle.description_types.specs.declared.description.Description.{Description}
-use Rattle.description_types.specs.declared.flat.End.{End}
-use Rattle.description_types.specs.declared.flat.Flat.{Flat}
-use Rattle.description_types.specs.declared.flat.Join.{Join}
-use Rattle.description_types.specs.Items.{ItemsJoin, interface_at}
-use Rattle.description_types.specs.Members.{Among}
+use Rattle.bus_semantics.specs.Common.{and_parts, slice_get_within, list_all, option_map_or, is_name}
+use Rattle.plan_definitions.specs.Common.{DataElement, Interface, InterfaceKind, ClientServer, ModeSwitch, SenderReceiver, Port, Description, End, Flat, Join, ItemsJoin, interface_at, Among}
+use Rattle.plan_definitions.specs.Common.{end_at, end_of, is_element, count_at, kind_at, provides_at, site, sites, port_of, elements_of, declared_at, element_in, limits_of, policy_kind}
+use Rattle.plan_definitions.specs.Common.{words_of, IsWellFormed, distinct, kind_fits, names_fit}
 use Rattle.bus_semantics.specs.declared.plan.ElemKind.TheVariants.{Unqueued}
-use Rattle.bus_semantics.specs.SoundNames.{is_name}
 use Rattle.plan_definitions.specs.declared.site.Site.{Site}
 use Rattle.plan_definitions.specs.declared.site.SiteKind.{SiteKind}
 use Rattle.plan_definitions.specs.declared.site.SiteKind.TheVariants.{Element}
-use Rattle.plan_definitions.specs.Joined.{end_at, end_of}
-use Rattle.plan_definitions.specs.Keys.{is_element}
-use Rattle.plan_definitions.specs.Sites.{count_at, kind_at, provides_at, site, sites}
-use Rattle.plan_definitions.specs.Ports.{port_of}
-use Rattle.plan_definitions.specs.Things.{elements_of}
-use Rattle.plan_definitions.specs.Elements.{declared_at, element_in, limits_of, policy_kind, words_of}
-use Rattle.plan_definitions.specs.WellFormed.{IsWellFormed, distinct, kind_fits, names_fit}
 use Rattle.sound_plans.proofs.Elems.{is_element_of}
 use Rattle.sound_plans.proofs.Ends.{HasPorts, one_named, same_limits, same_words, traits}
 use Rattle.sound_plans.proofs.Kept.{interface_is}

@@ -1,31 +1,15 @@
 -- The joins of a plan: elements of one group agree, an element is joined exactly where its group has both sides, and one side of
 -- each group has one element.
-use Rattle.std.proofs.Common.{◌≡◌, ℕ, ◌+◌, List, map, length, filter, Bool, true, false, if◌then◌else◌, not, ◌&&◌, ◌||◌, ◌==◌, nat_le, ℤ, pos, negsuc, int_le, Option, Some, None, inl, inr, ⊎_elim, refl, sym, ap, subst, ◌∙◌, arith, true≢false}
-use Rattle.std.proofs.lemmas.Bool.{and_from, and_parts, eq-eqb, eqb-true, leb-false, le-leb, not-true, or_cases, or_left, or_right}
-use Rattle.std.proofs.lemmas.List.Folds.{list_all-map}
-use Rattle.std.specs.List.{list_all, list_any}
-use Rattle.std.specs.Option.{option_map_or}
-use Rattle.description_types.specs.declared.description.Description.{Description}
-use Rattle.plan_definitions.specs.JoinRefusals.{refusal}
-use Rattle.description_types.specs.declared.flat.End.{End}
-use Rattle.description_types.specs.declared.flat.Flat.{Flat}
-use Rattle.description_types.specs.declared.flat.Join.{Join}
-use Rattle.description_types.specs.Flattening.{IsFlatOf}
-use Rattle.description_types.specs.Members.{Among}
-use Rattle.bus_semantics.specs.declared.plan.BusPlan.{BusPlan}
-use Rattle.bus_semantics.specs.declared.plan.ElemKind.{ElemKind}
+use Rattle.std.proofs.Common.{◌≡◌, ℕ, ◌+◌, List, map, length, filter, Bool, true, false, if◌then◌else◌, not, ◌&&◌, ◌||◌, ◌==◌, nat_le, ℤ, pos, negsuc, int_le, Option, Some, None, inl, inr}
+use Rattle.std.proofs.Common.{⊎_elim, refl, sym, ap, subst, ◌∙◌, arith, true≢false}
+use Rattle.bus_semantics.specs.Common.{and_from, and_parts, eq-eqb, eqb-true, le-leb, not-true, or_cases, or_left, or_right, list_all-map, list_all, list_any, option_map_or, plan_of, agrees}
+use Rattle.bus_semantics.specs.Common.{count_side, has_side, joins_fit}
+use Rattle.std.proofs.lemmas.Bool.{leb-false}
+use Rattle.plan_definitions.specs.Common.{Description, refusal, End, Flat, Join, IsFlatOf, Among, end_of, is_joined, partners, same_end, end_key, key_of, elements_of, Elem, elem_seen}
+use Rattle.plan_definitions.specs.Common.{element_of, elements, group_of, is_provided, IsWellFormed, IsWhole}
+use Rattle.bus_laws.specs.Common.{BusPlan, ElemKind, ElemPlan, Mapping}
 use Rattle.bus_semantics.specs.declared.plan.ElemKind.TheVariants as kind
-use Rattle.bus_semantics.specs.declared.plan.ElemPlan.{ElemPlan}
-use Rattle.bus_semantics.specs.declared.script.Mapping.{Mapping}
-use Rattle.bus_semantics.specs.Plan.{plan_of}
-use Rattle.bus_semantics.specs.SoundElements.{agrees, count_side, has_side, joins_fit}
 use Rattle.plan_definitions.specs.declared.site.Site.{Site}
-use Rattle.plan_definitions.specs.Joined.{end_of, is_joined, partners, same_end}
-use Rattle.plan_definitions.specs.Keys.{end_key, key_of}
-use Rattle.plan_definitions.specs.Things.{elements_of}
-use Rattle.plan_definitions.specs.Elements.{Elem, elem_seen, element_of, elements, group_of, is_provided}
-use Rattle.plan_definitions.specs.WellFormed.{IsWellFormed}
-use Rattle.plan_definitions.specs.Whole.{IsWhole}
 use Rattle.plan_definitions.proofs.Apart.{Two, by_second, one, two}
 use Rattle.sound_plans.proofs.Elems.{queued, unqueued, variable}
 use Rattle.sound_plans.proofs.Ends.{Traits, traits}

@@ -1,25 +1,11 @@
 -- Joined ends: each is a port of its owner, on its side; who is provided by an instance, and keeps arguments and modes.
 use Rattle.std.proofs.Common.{◌≡◌, suc, List, [], ◌∷◌, Bool, true, false, cond, Option, Some, None, option_map, option_and_then, inl, inr, refl, sym, subst, ◌∙◌}
-use Rattle.std.specs.List.{find}
-use Rattle.std.proofs.lemmas.Option.{same_Some}
-use Rattle.description_types.specs.declared.component.Port.{Port}
-use Rattle.description_types.specs.declared.component.PortKind.{PortKind}
-use Rattle.description_types.specs.declared.component.PortKind.TheVariants.{Provided, Required}
-use Rattle.description_types.specs.declared.description.Description.{Description}
-use Rattle.description_types.specs.declared.flat.End.{End}
-use Rattle.description_types.specs.declared.flat.Flat.{Flat}
-use Rattle.description_types.specs.declared.flat.Join.{Join}
-use Rattle.description_types.specs.Items.{interface_at, ItemsJoin}
-use Rattle.description_types.specs.Joined.{Stand, stand_in}
-use Rattle.plan_definitions.specs.Connectors.{root_client}
+use Rattle.bus_semantics.specs.Common.{find, same_Some}
+use Rattle.plan_definitions.specs.Common.{Port, PortKind, Provided, Required, Description, End, Flat, Join, interface_at, ItemsJoin, Stand, stand_in, root_client, same_end, provider_of}
+use Rattle.plan_definitions.specs.Common.{provides_at, port_of, IsWhole}
 use Rattle.plan_definitions.specs.JoinRefusals as joins
 use Rattle.plan_definitions.specs.declared.join_rule.JoinRule.TheVariants.{Services, Groups}
-use Rattle.bus_semantics.specs.declared.plan.BusPlan.{BusPlan}
-use Rattle.bus_semantics.specs.declared.script.Mapping.{Mapping}
-use Rattle.plan_definitions.specs.Joined.{same_end, provider_of}
-use Rattle.plan_definitions.specs.Sites.{provides_at}
-use Rattle.plan_definitions.specs.Ports.{port_of}
-use Rattle.plan_definitions.specs.Whole.{IsWhole}
+use Rattle.bus_laws.specs.Common.{BusPlan, Mapping}
 use Rattle.plan_definitions.proofs.Keys.{same_end_is}
 use Rattle.plan_definitions.proofs.Firsts.{map_none, or_none}
 use Rattle.sound_plans.proofs.Places.{not_some}

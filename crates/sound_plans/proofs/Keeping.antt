@@ -1,24 +1,9 @@
 -- What parts of a well-formed description keep.
 use Rattle.std.proofs.Common.{◌≡◌, ℕ, List, [], map, true, slice_get, Option, Some, None, refl}
-use Rattle.std.proofs.lemmas.Bool.{and_parts}
-use Rattle.std.specs.List.{list_all}
-use Rattle.std.specs.Option.{option_map_or}
-use Rattle.description_types.specs.declared.interface.Interface.{Interface}
-use Rattle.description_types.specs.declared.interface.TypeTable.{TypeTable}
-use Rattle.description_types.specs.declared.component.Component.{Component}
-use Rattle.description_types.specs.declared.component.Event.{Event}
-use Rattle.description_types.specs.declared.component.Port.{Port}
-use Rattle.description_types.specs.declared.component.Runnable.{Runnable}
-use Rattle.description_types.specs.declared.component.Variable.{Variable}
-use Rattle.description_types.specs.declared.description.Composition.{Composition}
-use Rattle.description_types.specs.declared.description.Description.{Description}
-use Rattle.description_types.specs.declared.description.Prototype.{Prototype}
-use Rattle.description_types.specs.declared.flat.Flat.{Flat}
-use Rattle.bus_semantics.specs.SoundNames.{is_name}
-use Rattle.plan_definitions.specs.Sites.{root_ports}
-use Rattle.plan_definitions.specs.Parts.{component_of}
-use Rattle.plan_definitions.specs.Ports.{ports_of}
-use Rattle.plan_definitions.specs.WellFormed.{distinct, names_fit, type_fits, group_fits, kind_fits, port_fits, ports_fit, variable_fits, runnable_fits, event_fits, serves_fit, component_fits, prototype_fits, composition_fits, IsWellFormed}
+use Rattle.bus_semantics.specs.Common.{and_parts, list_all, option_map_or, is_name}
+use Rattle.plan_definitions.specs.Common.{Interface, TypeTable, Component, Event, Port, Runnable, Variable, Composition, Description, Prototype, Flat, root_ports, component_of, ports_of}
+use Rattle.plan_definitions.specs.Common.{distinct, names_fit, type_fits, group_fits, kind_fits, port_fits, ports_fit, variable_fits, runnable_fits, event_fits, serves_fit, component_fits}
+use Rattle.plan_definitions.specs.Common.{prototype_fits, composition_fits, IsWellFormed}
 use Rattle.plan_definitions.proofs.Lists.{at as get_among}
 use Rattle.sound_plans.proofs.Lists.{all_at, and_then_some}
 

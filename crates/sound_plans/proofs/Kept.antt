@@ -1,23 +1,9 @@
 -- What a description that is well formed keeps at the ports and variables of instances and of the environment.
 use Rattle.std.proofs.Common.{◌≡◌, ℕ, List, [], length, map, true, ◌&&◌, nat_eq, nat_lt, Option, Some, None, option_map, option_and_then, refl, sym, ap, ◌∙◌, slice_get}
-use Rattle.std.proofs.lemmas.Bool.{and_parts, eqb-true, ltb-true}
-use Rattle.std.specs.List.{find, list_all}
-use Rattle.std.specs.Option.{option_map_or}
-use Rattle.description_types.specs.declared.base_type.DataType.{DataType}
-use Rattle.description_types.specs.declared.interface.ComSpec.{ComSpec}
-use Rattle.description_types.specs.declared.interface.Interface.{Interface}
-use Rattle.description_types.specs.declared.interface.ModeGroup.{ModeGroup}
-use Rattle.description_types.specs.declared.component.Component.{Component}
-use Rattle.description_types.specs.declared.component.Port.{Port}
-use Rattle.description_types.specs.declared.component.Variable.{Variable}
-use Rattle.description_types.specs.declared.description.Composition.{Composition}
-use Rattle.description_types.specs.declared.description.Description.{Description}
-use Rattle.description_types.specs.declared.flat.Flat.{Flat}
-use Rattle.description_types.specs.declared.flat.Instance.{Instance}
-use Rattle.plan_definitions.specs.Parts.{component_of}
-use Rattle.plan_definitions.specs.Ports.{com_spec_of, interface_of, port_of, queue_length_of}
-use Rattle.bus_semantics.specs.SoundPlan.{is_in}
-use Rattle.plan_definitions.specs.WellFormed.{IsWellFormed, com_spec_fits, component_fits, composition_fits, group_fits, kind_fits, names_fit, port_fits, ports_fit, type_fits, variable_fits}
+use Rattle.bus_semantics.specs.Common.{and_parts, eqb-true, ltb-true, find, list_all, option_map_or, is_in}
+use Rattle.plan_definitions.specs.Common.{DataType, ComSpec, Interface, ModeGroup, Component, Port, Variable, Composition, Description, Flat, Instance, component_of, com_spec_of}
+use Rattle.plan_definitions.specs.Common.{interface_of, port_of, queue_length_of, IsWellFormed, com_spec_fits, component_fits, composition_fits, group_fits, kind_fits, names_fit, port_fits}
+use Rattle.plan_definitions.specs.Common.{ports_fit, type_fits, variable_fits}
 use Rattle.plan_definitions.proofs.Lists.{all_at, at, found, there}
 
 module _ (d : Description) (w : IsWellFormed d) where

@@ -1,12 +1,8 @@
 -- The least group that lists connect with each group: none is after its group, and each leads itself.
 use Rattle.std.proofs.Common.{◌≡◌, ℕ, ◌+◌, ◌<◌, ◌≤◌, List, [], ◌∷◌, map, length, get_or, Bool, true, false, cond, Some, ⊎_elim, refl, sym, ap, subst, ◌∙◌, arith, slice_get}
-use Rattle.std.proofs.lemmas.Bool.{cases_lt}
+use Rattle.bus_semantics.specs.Common.{cases_lt, slice_get-get_or, slice_get_within, least, leaders_by, leaders_on, together, positions as bus_positions}
 use Rattle.std.proofs.lemmas.List.{get_or_past}
-use Rattle.std.proofs.lemmas.Option.{slice_get-get_or, slice_get_within}
-use Rattle.description_types.specs.Members.{Among}
-use Rattle.bus_semantics.specs.Bundles.{least, leaders_by, leaders_on, together}
-use Rattle.bus_semantics.specs.Plan.{positions as bus_positions}
-use Rattle.plan_definitions.specs.Lists.{positions}
+use Rattle.plan_definitions.specs.Common.{Among, positions}
 use Rattle.plan_definitions.proofs.Labels.{among_comes, comes, comes_among, label, least_among, least_low, least_same}
 use Rattle.plan_definitions.proofs.Lists.{get_map, many_positions, map_get, position_there, unmapped}
 use Rattle.sound_plans.proofs.Grouping.{same_positions}

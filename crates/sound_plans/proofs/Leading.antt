@@ -1,22 +1,11 @@
 -- The groups of a plan: no element is before the least one of its group.
 use Rattle.std.proofs.Common.{◌≡◌, ℕ, ◌≤◌, List, map, true, Option, Some, None, option_map, refl, sym, ap, subst, ◌∙◌, arith, slice_get}
 use mathlib.Core.List.{map-map}
-use Rattle.description_types.specs.declared.description.Description.{Description}
-use Rattle.description_types.specs.declared.flat.End.{End}
-use Rattle.description_types.specs.declared.flat.Flat.{Flat}
-use Rattle.bus_semantics.specs.declared.plan.BusPlan.{BusPlan}
-use Rattle.bus_semantics.specs.declared.plan.ElemPlan.{ElemPlan}
-use Rattle.bus_semantics.specs.declared.script.Mapping.{Mapping}
-use Rattle.bus_semantics.specs.Plan.{plan_of}
-use Rattle.bus_semantics.specs.SoundPlan.{groups_fit}
+use Rattle.plan_definitions.specs.Common.{Description, End, Flat, end_at, end_of, partners, Join, Key, end_key, key_of, keys_of, number_in, elements_of, Elem, element_of, elem_seen}
+use Rattle.plan_definitions.specs.Common.{group_of, leaders, group_number, leader, leader_of, own_number, IsWhole}
+use Rattle.bus_laws.specs.Common.{BusPlan, ElemPlan, Mapping}
+use Rattle.bus_semantics.specs.Common.{plan_of, groups_fit}
 use Rattle.plan_definitions.specs.declared.site.Site.{Site}
-use Rattle.plan_definitions.specs.Joined.{end_at, end_of, partners}
-use Rattle.description_types.specs.declared.flat.Join.{Join}
-use Rattle.plan_definitions.specs.Keys.{Key, end_key, key_of, keys_of, number_in}
-use Rattle.plan_definitions.specs.Things.{elements_of}
-use Rattle.plan_definitions.specs.Elements.{Elem, element_of, elem_seen, group_of, leaders}
-use Rattle.plan_definitions.specs.ElementGroups.{group_number, leader, leader_of, own_number}
-use Rattle.plan_definitions.specs.Whole.{IsWhole}
 use Rattle.sound_plans.proofs.Bounded.{groups_are}
 use Rattle.sound_plans.proofs.Grouping.{groups_kept}
 use Rattle.sound_plans.proofs.Heads.{AreLow}

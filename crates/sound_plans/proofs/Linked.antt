@@ -1,18 +1,8 @@
 -- Two elements have one group exactly where they are the same, are joined, or are joined with a third one.
 use Rattle.std.proofs.Common.{◌≡◌, Option, Some, None, ◌⊎◌, inl, inr, refl, sym, ap, subst, ◌∙◌, slice_get}
-use Rattle.description_types.specs.declared.description.Description.{Description}
-use Rattle.plan_definitions.specs.JoinRefusals.{refusal}
-use Rattle.description_types.specs.declared.flat.End.{End}
-use Rattle.description_types.specs.declared.flat.Flat.{Flat}
-use Rattle.description_types.specs.Flattening.{IsFlatOf}
-use Rattle.description_types.specs.Members.{Among}
+use Rattle.plan_definitions.specs.Common.{Description, refusal, End, Flat, IsFlatOf, Among, end_of, partners, key_of, number_in, elements_of, group_of, leaders, heads, leader_of}
+use Rattle.plan_definitions.specs.Common.{number_among, own_number, IsWellFormed}
 use Rattle.plan_definitions.specs.declared.site.Site.{Site}
-use Rattle.plan_definitions.specs.Joined.{end_of, partners}
-use Rattle.plan_definitions.specs.Keys.{key_of, number_in}
-use Rattle.plan_definitions.specs.Things.{elements_of}
-use Rattle.plan_definitions.specs.Elements.{group_of, leaders}
-use Rattle.plan_definitions.specs.ElementGroups.{heads, leader_of, number_among, own_number}
-use Rattle.plan_definitions.specs.WellFormed.{IsWellFormed}
 use Rattle.sound_plans.proofs.Ends.{traits}
 use Rattle.sound_plans.proofs.Heads.{here_head, number_is as head_is}
 use Rattle.sound_plans.proofs.Leading.{alone, keys, leads}

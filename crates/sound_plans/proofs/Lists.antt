@@ -1,9 +1,8 @@
 -- What is in lists that are made of others.
-use Rattle.std.proofs.Common.{◌≡◌, ℕ, zero, suc, ◌+◌, ◌<◌, ◌≤◌, List, [], ◌∷◌, ◌++◌, map, filter, slice_get, Bool, true, false, cond, Option, Some, None, option_map, option_and_then, ◌⊎◌, inl, inr, ⊎_elim, refl, sym, ap, subst, ◌∙◌, arith, true≢false}
-use Rattle.std.proofs.lemmas.Bool.{and_parts, or_from, or_left, or_right, cases_eq}
-use Rattle.std.specs.List.{list_all, list_any, find, position_from}
-use Rattle.description_types.specs.Members.{Among}
-use Rattle.plan_definitions.specs.Lists.{from, positions}
+use Rattle.std.proofs.Common.{◌≡◌, ℕ, zero, suc, ◌+◌, ◌<◌, ◌≤◌, List, [], ◌∷◌, ◌++◌, map, filter, slice_get, Bool, true, false, cond, Option, Some, None, option_map, option_and_then, ◌⊎◌}
+use Rattle.std.proofs.Common.{inl, inr, ⊎_elim, refl, sym, ap, subst, ◌∙◌, arith, true≢false}
+use Rattle.bus_semantics.specs.Common.{and_parts, or_from, or_left, or_right, cases_eq, list_all, list_any, find, position_from}
+use Rattle.plan_definitions.specs.Common.{Among, from, positions}
 use Rattle.plan_definitions.proofs.Lists.{cases, in_from}
 
 -- ---- images

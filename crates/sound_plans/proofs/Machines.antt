@@ -1,29 +1,11 @@
 -- Mode machines: they have the modes and the first mode of a mode group, and a queue as a port says.
 use Rattle.std.proofs.Common.{◌≡◌, ℕ, [], length, true, false, ◌&&◌, nat_lt, Option, Some, option_and_then, unwrap_or, refl, sym, ap, subst, ◌∙◌, ⊎_elim, true≢false}
-use Rattle.std.proofs.lemmas.Bool.{and_from, and_parts}
-use Rattle.std.specs.List.{list_all}
-use Rattle.std.specs.Option.{option_map_or}
-use Rattle.description_types.specs.declared.interface.InterfaceKind.{InterfaceKind}
-use Rattle.description_types.specs.declared.interface.InterfaceKind.TheVariants.{ClientServer, ModeSwitch, SenderReceiver}
-use Rattle.description_types.specs.declared.interface.ModeElement.{ModeElement}
-use Rattle.description_types.specs.declared.interface.ModeGroup.{ModeGroup}
-use Rattle.description_types.specs.declared.component.PortKind.{PortKind}
-use Rattle.description_types.specs.declared.description.Description.{Description}
-use Rattle.description_types.specs.declared.flat.Flat.{Flat}
-use Rattle.description_types.specs.Members.{Among}
-use Rattle.bus_semantics.specs.declared.plan.BusPlan.{BusPlan}
-use Rattle.bus_semantics.specs.declared.plan.MachinePlan.{MachinePlan}
-use Rattle.bus_semantics.specs.declared.script.Mapping.{Mapping}
-use Rattle.bus_semantics.specs.SoundElements.{machine_sound}
-use Rattle.bus_semantics.specs.SoundPlan.{is_in}
+use Rattle.bus_semantics.specs.Common.{and_from, and_parts, list_all, option_map_or, machine_sound, is_in}
+use Rattle.plan_definitions.specs.Common.{InterfaceKind, ClientServer, ModeSwitch, SenderReceiver, ModeElement, ModeGroup, PortKind, Description, Flat, Among, is_machine, kind_at, sites}
+use Rattle.plan_definitions.specs.Common.{item_text, queue_length_of, machine_number, machines_of, group_at, group_in, machine_at, machines, waits_of, IsWellFormed, group_fits, kind_fits}
+use Rattle.plan_definitions.specs.Common.{names_fit, IsWhole}
+use Rattle.bus_laws.specs.Common.{BusPlan, MachinePlan, Mapping}
 use Rattle.plan_definitions.specs.declared.site.Site.{Site}
-use Rattle.plan_definitions.specs.Keys.{is_machine}
-use Rattle.plan_definitions.specs.Sites.{kind_at, sites}
-use Rattle.plan_definitions.specs.Ports.{item_text, queue_length_of}
-use Rattle.plan_definitions.specs.Things.{machine_number, machines_of}
-use Rattle.plan_definitions.specs.Modes.{group_at, group_in, machine_at, machines, waits_of}
-use Rattle.plan_definitions.specs.WellFormed.{IsWellFormed, group_fits, kind_fits, names_fit}
-use Rattle.plan_definitions.specs.Whole.{IsWhole}
 use Rattle.sound_plans.proofs.Kept.{interface_is, queue_keeps, some_group}
 use Rattle.plan_definitions.proofs.Lists.{all_from, unkept, unmapped}
 use Rattle.plan_definitions.proofs.Sites.{AtPort, IsVariable, is_site}

@@ -1,16 +1,9 @@
 -- What is in a list: of lists joined, in order, mapped and filtered; and how often.
-use Rattle.std.proofs.Common.{◌≡◌, ℕ, zero, suc, ◌+◌, ◌<◌, ◌≤◌, Bool, true, false, cond, nat_eq, nat_le, refl, sym, ◌∙◌, ap, subst, arith, List, [], ◌∷◌, ◌++◌, map, filter, length, Some, ◌⊎◌, inl, inr}
-use Rattle.std.specs.List.{slice_get, flat_map, list_any}
-use Rattle.std.proofs.lemmas.Bool.{eqb-true, eq-eqb, and_parts, not-true}
-use Rattle.std.proofs.lemmas.Map.Keys.{any_passes_from_place}
-use Rattle.std.proofs.lemmas.Option.{same_Some}
-use Rattle.bus_semantics.specs.History.{count}
+use Rattle.std.proofs.Common.{◌≡◌, ℕ, zero, suc, ◌+◌, ◌<◌, ◌≤◌, Bool, true, false, cond, nat_eq, nat_le, refl, sym, ◌∙◌, ap, subst, arith, List, [], ◌∷◌, ◌++◌, map, filter, length, Some}
+use Rattle.std.proofs.Common.{◌⊎◌, inl, inr}
+use Rattle.bus_semantics.specs.Common.{slice_get, flat_map, list_any, eqb-true, eq-eqb, and_parts, not-true, any_passes_from_place, same_Some, count, gathered, same_numbers}
 use Rattle.bus_semantics.specs.Plan as plan
-use Rattle.bus_semantics.specs.Rest.{gathered}
-use Rattle.bus_semantics.specs.SoundPlan.{same_numbers}
-use Rattle.plan_definitions.specs.MappingRules.{are_same}
-use Rattle.plan_definitions.specs.Sorting.{put, in_order}
-use Rattle.plan_definitions.specs.WellFormed.{distinct}
+use Rattle.plan_definitions.specs.Common.{are_same, put, in_order, distinct}
 use Rattle.plan_definitions.proofs.Lists.{same_numbers_refl}
 use Rattle.bus_laws.proofs.Thinning.{clash}
 use Rattle.sound_plans.proofs.Places.{append_left, append_right, append_at, Later, kept_at, kept, mapped, all_at}

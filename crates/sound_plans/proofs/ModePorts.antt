@@ -1,43 +1,16 @@
 -- A required mode element of the plan has a machine of the plan: the provided end of its join is the site of one.
-use Rattle.std.proofs.Common.{◌≡◌, ℕ, ◌<◌, [], length, slice_get, true, false, ◌&&◌, nat_eq, nat_lt, Option, Some, None, option_map, option_and_then, is_some, refl, sym, ap, subst, ◌∙◌, arith, true≢false}
-use Rattle.std.proofs.lemmas.Bool.{and_parts, eqb-true, lt-ltb}
-use Rattle.std.proofs.lemmas.List.{length-map}
-use Rattle.std.proofs.lemmas.Option.{slice_get-map}
-use Rattle.std.specs.List.{find, list_all}
-use Rattle.std.specs.Option.{option_eq, option_map_or, unwrap_or}
-use Rattle.description_types.specs.declared.interface.Interface.{Interface}
-use Rattle.description_types.specs.declared.interface.InterfaceKind.{InterfaceKind}
-use Rattle.description_types.specs.declared.interface.InterfaceKind.TheVariants.{SenderReceiver, ClientServer, ModeSwitch}
-use Rattle.description_types.specs.declared.interface.ModeElement.{ModeElement}
-use Rattle.description_types.specs.declared.component.Component.{Component}
-use Rattle.description_types.specs.declared.component.Port.{Port}
-use Rattle.description_types.specs.declared.component.PortKind.{PortKind}
-use Rattle.description_types.specs.declared.component.PortKind.TheVariants.{Provided, Required}
-use Rattle.description_types.specs.declared.description.Description.{Description}
-use Rattle.description_types.specs.declared.description.PrototypeType.{PrototypeType}
+use Rattle.std.proofs.Common.{◌≡◌, ℕ, ◌<◌, [], length, slice_get, true, false, ◌&&◌, nat_eq, nat_lt, Option, Some, None, option_map, option_and_then, is_some, refl, sym, ap, subst, ◌∙◌}
+use Rattle.std.proofs.Common.{arith, true≢false}
+use Rattle.bus_semantics.specs.Common.{and_parts, eqb-true, lt-ltb, length-map, slice_get-map, find, list_all, option_eq, option_map_or, unwrap_or}
+use Rattle.plan_definitions.specs.Common.{Interface, InterfaceKind, SenderReceiver, ClientServer, ModeSwitch, ModeElement, Component, Port, PortKind, Provided, Required, Description}
+use Rattle.plan_definitions.specs.Common.{PrototypeType, End, Flat, Instance, Join, IsFlatOf, Place, places, instance_at, ItemsJoin, interface_at, Stand, interface_below, stand_in, Among}
+use Rattle.plan_definitions.specs.Common.{type_at, end_at, provider_of, same_end, end_key, is_machine, is_mode_port, key_of, keys_of, of_kind, count_at, kind_at, provides_at, site, sites}
+use Rattle.plan_definitions.specs.Common.{has_machine, machine_for, machine_number, machines_of, mode_ports_of, machine_at, machines, mode_port_at, mode_ports, plan_of, seen}
 use Rattle.description_types.specs.declared.description.PrototypeType.TheVariants as of
-use Rattle.description_types.specs.declared.flat.End.{End}
-use Rattle.description_types.specs.declared.flat.Flat.{Flat}
-use Rattle.description_types.specs.declared.flat.Instance.{Instance}
-use Rattle.description_types.specs.declared.flat.Join.{Join}
 use Rattle.description_types.specs.Connectors.{interface_of, kind_of, ports_of}
-use Rattle.description_types.specs.Flattening.{IsFlatOf}
-use Rattle.description_types.specs.Places.{Place, places}
-use Rattle.description_types.specs.Instances.{instance_at}
-use Rattle.description_types.specs.Items.{ItemsJoin, interface_at}
-use Rattle.description_types.specs.Joined.{Stand, interface_below, stand_in}
-use Rattle.description_types.specs.Members.{Among}
-use Rattle.description_types.specs.Paths.{type_at}
-use Rattle.bus_semantics.specs.declared.plan.BusPlan.{BusPlan}
-use Rattle.bus_semantics.specs.declared.plan.ModePortPlan.{ModePortPlan}
+use Rattle.bus_laws.specs.Common.{BusPlan, ModePortPlan}
 use Rattle.plan_definitions.specs.declared.site.Site.{Site}
-use Rattle.plan_definitions.specs.Joined.{end_at, provider_of, same_end}
-use Rattle.plan_definitions.specs.Keys.{end_key, is_machine, is_mode_port, key_of, keys_of, of_kind}
-use Rattle.plan_definitions.specs.Sites.{count_at, kind_at, provides_at, site, sites}
 use Rattle.plan_definitions.specs.Ports as plan
-use Rattle.plan_definitions.specs.Things.{has_machine, machine_for, machine_number, machines_of, mode_ports_of}
-use Rattle.plan_definitions.specs.Modes.{machine_at, machines, mode_port_at, mode_ports}
-use Rattle.plan_definitions.specs.Planned.{plan_of, seen}
 use Rattle.plan_definitions.proofs.Keys.{same_number}
 use Rattle.plan_definitions.proofs.Lists.{is_there, all_from}
 use Rattle.plan_definitions.proofs.Stands.{of_root}

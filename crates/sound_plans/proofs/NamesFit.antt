@@ -1,45 +1,16 @@
 -- The names of a plan are names, pairs of names and paths.
 use Rattle.std.proofs.Common.{◌≡◌, ℕ, ◌<◌, List, [], ◌∷◌, map, slice_get, Bool, true, cond, ◌&&◌, Option, Some, None, is_none, ⊎_elim, refl, sym, ap, subst, ◌∙◌}
-use Rattle.std.proofs.lemmas.Bool.{and_from, and_parts}
-use Rattle.std.specs.List.{list_all}
-use Rattle.std.specs.Option.{option_map_or, unwrap_or}
-use Rattle.description_types.specs.declared.interface.InterfaceKind.{InterfaceKind}
-use Rattle.description_types.specs.declared.interface.InterfaceKind.TheVariants.{SenderReceiver, ClientServer, ModeSwitch}
-use Rattle.description_types.specs.declared.interface.ModeGroup.{ModeGroup}
-use Rattle.description_types.specs.declared.component.Component.{Component}
-use Rattle.description_types.specs.declared.component.Event.{Event}
+use Rattle.bus_semantics.specs.Common.{and_from, and_parts, list_all, option_map_or, unwrap_or, Runnable, is_name, is_pair_name, names_fit, is_variable}
+use Rattle.plan_definitions.specs.Common.{InterfaceKind, SenderReceiver, ClientServer, ModeSwitch, ModeGroup, Component, Event, Description, Flat, Instance, IsFlatOf, Among, is_element}
+use Rattle.plan_definitions.specs.Common.{sites, Elem, elem_seen, element_of, elements, group_of, interface_of, site_name, elements_of, machines_of, mode_ports_of, servers_of, event_of}
+use Rattle.plan_definitions.specs.Common.{events, events_of_component, runnable_of, runnables, runnables_of_component, callings, owner_of, group_at, group_in, machine_at, machines}
+use Rattle.plan_definitions.specs.Common.{mode_port_at, mode_ports, point_of, points, server_of, servers, area_of, areas, areas_at, named_areas, plan_of, seen, IsRefusal, item_count}
+use Rattle.plan_definitions.specs.Common.{IsWellFormed}
 use Rattle.description_types.specs.declared.component.Runnable as declared
-use Rattle.description_types.specs.declared.description.Description.{Description}
-use Rattle.description_types.specs.declared.flat.Flat.{Flat}
-use Rattle.description_types.specs.declared.flat.Instance.{Instance}
-use Rattle.description_types.specs.Flattening.{IsFlatOf}
-use Rattle.description_types.specs.Members.{Among}
-use Rattle.bus_semantics.specs.declared.plan.AreaPlan.{AreaPlan}
-use Rattle.bus_semantics.specs.declared.plan.BusPlan.{BusPlan}
-use Rattle.bus_semantics.specs.declared.plan.ElemPlan.{ElemPlan}
-use Rattle.bus_semantics.specs.declared.plan.EventPlan.{EventPlan}
-use Rattle.bus_semantics.specs.declared.plan.MachinePlan.{MachinePlan}
-use Rattle.bus_semantics.specs.declared.plan.ModePortPlan.{ModePortPlan}
-use Rattle.bus_semantics.specs.declared.plan.PointPlan.{PointPlan}
-use Rattle.bus_semantics.specs.declared.plan.ServerPlan.{ServerPlan}
+use Rattle.bus_laws.specs.Common.{AreaPlan, BusPlan, ElemPlan, EventPlan, MachinePlan, ModePortPlan, PointPlan, ServerPlan}
 use Rattle.bus_semantics.specs.Plan as bus
-use Rattle.bus_semantics.specs.Plan.{Runnable}
-use Rattle.bus_semantics.specs.SoundNames.{is_name, is_pair_name, names_fit}
-use Rattle.bus_semantics.specs.SoundPlan.{is_variable}
 use Rattle.plan_definitions.specs.declared.site.Site.{Site}
-use Rattle.plan_definitions.specs.Keys.{is_element}
-use Rattle.plan_definitions.specs.Sites.{sites}
-use Rattle.plan_definitions.specs.Elements.{Elem, elem_seen, element_of, elements, group_of}
-use Rattle.plan_definitions.specs.Ports.{interface_of, site_name}
-use Rattle.plan_definitions.specs.Things.{elements_of, machines_of, mode_ports_of, servers_of}
-use Rattle.plan_definitions.specs.Started.{event_of, events, events_of_component, runnable_of, runnables, runnables_of_component}
-use Rattle.plan_definitions.specs.Callings.{callings, owner_of}
-use Rattle.plan_definitions.specs.Modes.{group_at, group_in, machine_at, machines, mode_port_at, mode_ports}
-use Rattle.plan_definitions.specs.Services.{point_of, points, server_of, servers}
-use Rattle.plan_definitions.specs.Planned.{area_of, areas, areas_at, named_areas, plan_of, seen}
-use Rattle.plan_definitions.specs.PlanRefusals.{IsRefusal}
 use Rattle.plan_definitions.specs.WellFormed as declared_names
-use Rattle.plan_definitions.specs.WellFormed.{item_count, IsWellFormed}
 use Rattle.plan_definitions.proofs.Lists.{all_from, at as get_among}
 use Rattle.sound_plans.proofs.Calls.{call_is}
 use Rattle.sound_plans.proofs.ItemNames.{item_site_name, site_text_fits, text_fits, variable_fits}

@@ -1,19 +1,9 @@
 -- Numbers of pairs and keys, and what stands at them.
 use Rattle.std.proofs.Common.{◌≡◌, ℕ, ◌+◌, ◌<◌, List, [], ◌∷◌, length, map, slice_get, ◌&&◌, nat_eq, Option, Some, None, refl, sym, ap, subst, ◌∙◌, arith}
-use Rattle.std.proofs.lemmas.Bool.{and_from, eq-eqb}
-use Rattle.std.proofs.lemmas.Option.{slice_get-map, slice_get_within}
-use Rattle.std.specs.Option.{option_map, option_map_or, option_eq, unwrap_or}
-use Rattle.description_types.specs.declared.component.Component.{Component}
+use Rattle.bus_semantics.specs.Common.{and_from, eq-eqb, slice_get-map, slice_get_within, option_map, option_map_or, option_eq, unwrap_or, Runnable}
+use Rattle.plan_definitions.specs.Common.{Component, Description, Flat, Instance, Among, Key, same_key, number_in, same_pair, pair_number, positions, from, of_instances, numbered}
+use Rattle.plan_definitions.specs.Common.{runnables_of, runnable_of, runnables_of_component, runnables}
 use Rattle.description_types.specs.declared.component.Runnable as declared
-use Rattle.description_types.specs.declared.description.Description.{Description}
-use Rattle.description_types.specs.declared.flat.Flat.{Flat}
-use Rattle.description_types.specs.declared.flat.Instance.{Instance}
-use Rattle.description_types.specs.Members.{Among}
-use Rattle.bus_semantics.specs.Plan.{Runnable}
-use Rattle.plan_definitions.specs.Keys.{Key, same_key, number_in, same_pair, pair_number}
-use Rattle.plan_definitions.specs.Lists.{positions, from}
-use Rattle.plan_definitions.specs.Parts.{of_instances, numbered, runnables_of}
-use Rattle.plan_definitions.specs.Started.{runnable_of, runnables_of_component, runnables}
 use Rattle.plan_definitions.proofs.Keys.{same_number_refl, same_pair_is}
 use Rattle.plan_definitions.proofs.Lists.{map_from, get_map as unmap}
 use Rattle.sound_plans.proofs.Lists.{position_found, pieces, in_pieces, map_has, in_positions, from_same}

@@ -1,58 +1,23 @@
 -- Points fit: an operation that is called without waiting has no other caller in its instance; a point has few arguments, of limits in range, and a joined one its server's.
-use Rattle.std.proofs.Common.{◌≡◌, ℕ, ◌+◌, Bool, true, false, cond, ◌&&◌, ◌||◌, not, ◌==◌, refl, sym, ◌∙◌, ap, subst, arith, append_assoc, codes, List, [], ◌∷◌, ◌++◌, map, filter, length, Option, Some, None, option_map, option_and_then, ◌⊎◌, inl, inr}
+use Rattle.std.proofs.Common.{◌≡◌, ℕ, ◌+◌, Bool, true, false, cond, ◌&&◌, ◌||◌, not, ◌==◌, refl, sym, ◌∙◌, ap, subst, arith, append_assoc, codes, List, [], ◌∷◌, ◌++◌, map, filter, length}
+use Rattle.std.proofs.Common.{Option, Some, None, option_map, option_and_then, ◌⊎◌, inl, inr}
 use Rattle.std.specs.Prelude.{nat_le}
-use Rattle.std.specs.List.{slice_get, list_all}
-use Rattle.std.specs.Option.{option_map_or}
-use Rattle.std.proofs.lemmas.Bool.{and_from, and_parts, eq-eqb, false≢true, or_cases, or_left, or_right}
+use Rattle.bus_semantics.specs.Common.{slice_get, list_all, option_map_or, and_from, and_parts, eq-eqb, false≢true, or_cases, or_left, or_right, length-map, same_Some, Limits, same_number}
+use Rattle.bus_semantics.specs.Common.{same_words, AccessKind, plan_of, look, every_from, instance_of, same_operation, points_fit, argument_limits, limits_fit, same_limits, is_letter}
+use Rattle.bus_semantics.specs.Common.{is_name_part, is_name, is_in, same_numbers}
 use Rattle.std.proofs.lemmas.Bool.Decides.{Decides-int_eq}
-use Rattle.std.proofs.lemmas.List.{length-map}
 use Rattle.std.proofs.lemmas.List.Filters.{length-filter_both}
-use Rattle.std.proofs.lemmas.Option.{same_Some}
-use Rattle.rte_value.specs.declared.kinds.Limits.{Limits}
-use Rattle.rte_value.specs.Values.{same_number, same_words}
-use Rattle.runnable_lang.specs.declared.program.AccessKind.{AccessKind}
 use Rattle.runnable_lang.specs.declared.program.AccessKind.TheVariants as kind
-use Rattle.description_types.specs.declared.base_type.DataType.{DataType}
-use Rattle.description_types.specs.declared.interface.ApplicationError.{ApplicationError}
-use Rattle.description_types.specs.declared.interface.Argument.{Argument}
-use Rattle.description_types.specs.declared.interface.Direction.{Direction}
-use Rattle.description_types.specs.declared.interface.Direction.TheVariants.{In, Out}
-use Rattle.description_types.specs.declared.interface.Interface.{Interface}
-use Rattle.description_types.specs.declared.interface.InterfaceKind.{InterfaceKind}
-use Rattle.description_types.specs.declared.interface.InterfaceKind.TheVariants.{ClientServer}
+use Rattle.plan_definitions.specs.Common.{DataType, ApplicationError, Argument, Direction, In, Out, Interface, InterfaceKind, ClientServer, has_distinct_codes, is_sound, is_sound_argument}
+use Rattle.plan_definitions.specs.Common.{Component, Port, Required, Composition, Description, End, Flat, item_at, arguments_of, goes, end_at, provider_of, end_key, component_of, root_ports}
+use Rattle.plan_definitions.specs.Common.{ports_of, port_of, interface_of, item_name, item_text, server_number, callings, owner_of, argument_of, is_out, operation_in, point_of, point_words}
+use Rattle.plan_definitions.specs.Common.{points, server_at, servers, IsWhole}
 use Rattle.description_types.specs.declared.interface.Operation as declared_operation
-use Rattle.description_types.specs.Refusals.{has_distinct_codes, is_sound, is_sound_argument}
-use Rattle.description_types.specs.declared.component.Component.{Component}
-use Rattle.description_types.specs.declared.component.Port.{Port}
-use Rattle.description_types.specs.declared.component.PortKind.TheVariants.{Required}
-use Rattle.description_types.specs.declared.description.Composition.{Composition}
-use Rattle.description_types.specs.declared.description.Description.{Description}
-use Rattle.description_types.specs.declared.flat.End.{End}
-use Rattle.description_types.specs.declared.flat.Flat.{Flat}
-use Rattle.bus_semantics.specs.declared.plan.BusPlan.{BusPlan}
-use Rattle.bus_semantics.specs.declared.plan.ElemPlan.{ElemPlan}
-use Rattle.bus_semantics.specs.declared.plan.PointPlan.{PointPlan}
-use Rattle.bus_semantics.specs.declared.plan.ServerPlan.{ServerPlan}
-use Rattle.bus_semantics.specs.declared.script.Mapping.{Mapping}
-use Rattle.bus_semantics.specs.Plan.{plan_of, look, every_from, instance_of}
-use Rattle.bus_semantics.specs.SoundAccesses.{same_operation, points_fit}
-use Rattle.bus_semantics.specs.SoundElements.{argument_limits, limits_fit, same_limits}
-use Rattle.bus_semantics.specs.SoundNames.{is_letter, is_name_part, is_name}
-use Rattle.bus_semantics.specs.SoundPlan.{is_in, same_numbers}
+use Rattle.bus_laws.specs.Common.{BusPlan, ElemPlan, PointPlan, ServerPlan, Mapping}
 use Rattle.plan_definitions.specs.declared.item.Item.TheVariants.{Operation}
-use Rattle.plan_definitions.specs.Items.{item_at}
-use Rattle.plan_definitions.specs.Signatures.{arguments_of, goes, limits_of}
-use Rattle.plan_definitions.specs.Joined.{end_at, provider_of}
-use Rattle.plan_definitions.specs.Keys.{end_key}
-use Rattle.plan_definitions.specs.Parts.{component_of}
-use Rattle.plan_definitions.specs.Sites.{root_ports}
-use Rattle.plan_definitions.specs.Ports.{ports_of, port_of, interface_of, item_name, item_text}
-use Rattle.plan_definitions.specs.Things.{server_number}
+use Rattle.plan_definitions.specs.Signatures.{limits_of}
 use Rattle.plan_definitions.specs.declared.calling.Calling.{Calling}
-use Rattle.plan_definitions.specs.Callings.{callings, owner_of}
-use Rattle.plan_definitions.specs.Services.{argument_of, is_out, operation_in, point_of, point_words, points, server_at, servers}
 use Rattle.plan_definitions.specs.WellFormed as formed
-use Rattle.plan_definitions.specs.Whole.{IsWhole}
 use Rattle.plan_definitions.proofs.Lists.{same_numbers_is}
 use Rattle.bus_laws.proofs.Thinning.{option_same}
 use Rattle.sound_plans.proofs.Places.{not_some, all_if, all_at, every_if, looked, map_at, MapAt, mapped, kept_at, append_at, Later}

@@ -1,44 +1,20 @@
 -- Each event is mapped as often as it is owed; the whole mapping fits.
 use Rattle.std.proofs.Common.{◌≡◌, ℕ, ◌+◌, ◌<◌, ◌≤◌, Bool, true, false, cond, ◌&&◌, ◌||◌, not, ◌==◌, nat_eq, refl, sym, ◌∙◌, ap, subst, arith, List, [], ◌∷◌, map, filter, length, Option, Some, None}
 use Rattle.std.specs.Prelude.{nat_lt, nat_le, is_some}
-use Rattle.std.specs.List.{slice_get, list_all, list_any}
-use Rattle.std.specs.Option.{option_map_or}
-use Rattle.std.proofs.lemmas.Bool.{and_from, and_parts, eq-eqb, eqb-true, le-leb, leb-true, lt-ltb, ltb-true, or_left, or_right}
-use Rattle.std.proofs.lemmas.Option.{slice_get_within}
+use Rattle.bus_semantics.specs.Common.{slice_get, list_all, list_any, option_map_or, and_from, and_parts, eq-eqb, eqb-true, le-leb, leb-true, lt-ltb, ltb-true, or_left, or_right}
+use Rattle.bus_semantics.specs.Common.{slice_get_within, count, plan_of, every_from, positions, gathered, mapped_events, times_mapped, is_name, is_in, same_numbers}
 use Rattle.std.specs.Cmp.{both_ways}
 use Rattle.description_types.specs.declared.component.EventKind as declared_kind
 use Rattle.description_types.specs.declared.component.EventKind.TheVariants as declared_event
-use Rattle.description_types.specs.declared.description.Description.{Description}
-use Rattle.description_types.specs.declared.description.MappedEvent.{MappedEvent}
+use Rattle.plan_definitions.specs.Common.{Description, MappedEvent, Flat, named_by, names, mapped_as, is_mapped, is_mapped_well, by_position, number_of, events_in, task_at, mapping_of}
+use Rattle.plan_definitions.specs.Common.{same_pair, pair_number, from, events_of, events, runnables, server_at, servers, is_numbered_mapped, queue_length_of, server_number, IsWhole}
 use Rattle.description_types.specs.declared.description.Task as declared_task
-use Rattle.description_types.specs.declared.flat.Flat.{Flat}
-use Rattle.bus_semantics.specs.declared.plan.BusPlan.{BusPlan}
-use Rattle.bus_semantics.specs.declared.plan.ElemPlan.{ElemPlan}
-use Rattle.bus_semantics.specs.declared.plan.EventPlan.{EventPlan}
-use Rattle.bus_semantics.specs.declared.plan.ServerPlan.{ServerPlan}
-use Rattle.bus_semantics.specs.declared.script.Mapping.{Mapping}
-use Rattle.bus_semantics.specs.declared.script.Task.{Task}
-use Rattle.bus_semantics.specs.History.{count}
-use Rattle.bus_semantics.specs.Plan.{plan_of, every_from, positions}
+use Rattle.bus_laws.specs.Common.{BusPlan, ElemPlan, EventPlan, ServerPlan, Mapping, Task}
 use Rattle.bus_semantics.specs.Plan as plan
-use Rattle.bus_semantics.specs.Rest.{gathered}
 use Rattle.bus_semantics.specs.Sound as sound
-use Rattle.bus_semantics.specs.Sound.{mapped_events, times_mapped}
-use Rattle.bus_semantics.specs.SoundNames.{is_name}
-use Rattle.bus_semantics.specs.SoundPlan.{is_in, same_numbers}
-use Rattle.plan_definitions.specs.Mapped.{named_by, names, mapped_as, is_mapped}
-use Rattle.plan_definitions.specs.MappingRules.{is_mapped_well}
-use Rattle.plan_definitions.specs.Tasks.{by_position, number_of, events_in, task_at, mapping_of}
-use Rattle.plan_definitions.specs.Keys.{same_pair, pair_number}
-use Rattle.plan_definitions.specs.Lists.{from}
-use Rattle.plan_definitions.specs.Parts.{events_of}
-use Rattle.plan_definitions.specs.Started.{kind_of, events, runnables}
-use Rattle.plan_definitions.specs.Services.{server_at, servers, is_numbered_mapped}
+use Rattle.plan_definitions.specs.Started.{kind_of}
 use Rattle.plan_definitions.specs.Services as services
-use Rattle.plan_definitions.specs.Ports.{queue_length_of}
-use Rattle.plan_definitions.specs.Things.{server_number}
 use Rattle.plan_definitions.specs.WellFormed as formed
-use Rattle.plan_definitions.specs.Whole.{IsWhole}
 use Rattle.plan_definitions.proofs.Lists.{same_numbers_is, there}
 use Rattle.sound_plans.proofs.Places.{all_if, all_at, every_if, looked, mapped}
 use Rattle.sound_plans.proofs.Members.{position_at_plan, names_apart, count_append, count_flat, added_same, added_kept, added_order, spread, spread_all}

@@ -1,17 +1,8 @@
 -- Who owns what: instances that there are, or the environment.
 use Rattle.std.proofs.Common.{◌≡◌, ℕ, ◌<◌, [], length, slice_get, Option, Some, None, ⊎_elim, refl, sym, subst}
-use Rattle.std.proofs.lemmas.Option.{slice_get_within}
-use Rattle.std.specs.Option.{option_map_or}
-use Rattle.description_types.specs.declared.component.Component.{Component}
-use Rattle.description_types.specs.declared.component.Port.{Port}
-use Rattle.description_types.specs.declared.description.Description.{Description}
-use Rattle.description_types.specs.declared.flat.Flat.{Flat}
-use Rattle.description_types.specs.declared.flat.Instance.{Instance}
-use Rattle.description_types.specs.Members.{Among}
+use Rattle.bus_semantics.specs.Common.{slice_get_within, option_map_or}
+use Rattle.plan_definitions.specs.Common.{Component, Port, Description, Flat, Instance, Among, component_of, sites, ports_of}
 use Rattle.plan_definitions.specs.declared.site.Site.{Site}
-use Rattle.plan_definitions.specs.Parts.{component_of}
-use Rattle.plan_definitions.specs.Sites.{sites}
-use Rattle.plan_definitions.specs.Ports.{ports_of}
 use Rattle.sound_plans.proofs.Lists.{and_then_some}
 use Rattle.sound_plans.proofs.Sites.{PortAt, ComponentAt, ItemAt, VariableAt, site_is}
 

@@ -1,22 +1,10 @@
 -- The partners of a data element: elements of the other side that agree with it, in groups that are stars by rule 15.
 use Rattle.std.proofs.Common.{◌≡◌, List, [], ◌∷◌, Bool, true, false, not, if◌then◌else◌, Some, None, option_map, ◌⊎◌, inl, inr, ⊎_elim, refl, sym, ap, subst, ◌∙◌}
 use Rattle.std.proofs.lemmas.Option.{slice_get_within}
-use Rattle.description_types.specs.declared.description.Description.{Description}
-use Rattle.plan_definitions.specs.Joins.{is_many_to_many, providers, requirers}
-use Rattle.plan_definitions.specs.JoinRefusals.{refusal}
-use Rattle.description_types.specs.declared.flat.End.{End}
-use Rattle.description_types.specs.declared.flat.Flat.{Flat}
-use Rattle.description_types.specs.declared.flat.Join.{Join}
-use Rattle.description_types.specs.Flattening.{IsFlatOf}
-use Rattle.description_types.specs.Members.{Among}
+use Rattle.plan_definitions.specs.Common.{Description, is_many_to_many, providers, requirers, refusal, End, Flat, Join, IsFlatOf, Among, across, end_at, end_of, partners, same_end}
+use Rattle.plan_definitions.specs.Common.{is_element, key_of, provides_at, sites, elements_of, is_provided, IsWellFormed}
 use Rattle.plan_definitions.specs.declared.site.Site.{Site}
 use Rattle.plan_definitions.specs.declared.site.SiteKind.TheVariants.{Element}
-use Rattle.plan_definitions.specs.Joined.{across, end_at, end_of, partners, same_end}
-use Rattle.plan_definitions.specs.Keys.{is_element, key_of}
-use Rattle.plan_definitions.specs.Sites.{provides_at, sites}
-use Rattle.plan_definitions.specs.Things.{elements_of}
-use Rattle.plan_definitions.specs.Elements.{is_provided}
-use Rattle.plan_definitions.specs.WellFormed.{IsWellFormed}
 use Rattle.plan_definitions.proofs.Apart.{Apart, apart_filter, one_item}
 use Rattle.sound_plans.proofs.Elems.{is_element_of}
 use Rattle.sound_plans.proofs.Ends.{HasPorts, has_ports, traits}

@@ -1,24 +1,10 @@
 -- What instances have: runnables, events and areas stand in the plan by instance and position, and have the numbers of their places.
 use Rattle.std.proofs.Common.{◌≡◌, ℕ, zero, suc, ◌+◌, ◌<◌, true, nat_eq, refl, sym, ◌∙◌, ap, subst, arith, List, [], ◌∷◌, map, length, Option, Some, None, option_and_then}
-use Rattle.std.specs.List.{slice_get}
-use Rattle.std.specs.Option.{option_map_or, unwrap_or}
-use Rattle.std.proofs.lemmas.Bool.{eqb-true, eq-eqb, and_from, and_parts}
-use Rattle.std.proofs.lemmas.Option.{same_Some, slice_get_within}
-use Rattle.std.proofs.lemmas.List.{length-map}
-use Rattle.description_types.specs.declared.component.Component.{Component}
-use Rattle.description_types.specs.declared.component.Event.{Event}
+use Rattle.bus_semantics.specs.Common.{slice_get, option_map_or, unwrap_or, eqb-true, eq-eqb, and_from, and_parts, same_Some, slice_get_within, length-map, Runnable}
+use Rattle.plan_definitions.specs.Common.{Component, Event, Description, Flat, Instance, same_pair, pair_number, from, positions, component_of, of_instances, numbered, runnables_of}
+use Rattle.plan_definitions.specs.Common.{events_of, areas_of, event_of, events_of_component, events, runnable_of, runnables_of_component, runnables, area_of, areas}
 use Rattle.description_types.specs.declared.component.Runnable as declared_runnable
-use Rattle.description_types.specs.declared.description.Description.{Description}
-use Rattle.description_types.specs.declared.flat.Flat.{Flat}
-use Rattle.description_types.specs.declared.flat.Instance.{Instance}
-use Rattle.bus_semantics.specs.declared.plan.AreaPlan.{AreaPlan}
-use Rattle.bus_semantics.specs.declared.plan.EventPlan.{EventPlan}
-use Rattle.bus_semantics.specs.Plan.{Runnable}
-use Rattle.plan_definitions.specs.Keys.{same_pair, pair_number}
-use Rattle.plan_definitions.specs.Lists.{from, positions}
-use Rattle.plan_definitions.specs.Parts.{component_of, of_instances, numbered, runnables_of, events_of, areas_of}
-use Rattle.plan_definitions.specs.Started.{event_of, events_of_component, events, runnable_of, runnables_of_component, runnables}
-use Rattle.plan_definitions.specs.Planned.{area_of, areas}
+use Rattle.bus_laws.specs.Common.{AreaPlan, EventPlan}
 use Rattle.plan_definitions.proofs.Lists.{many_positions, position_there}
 use Rattle.sound_plans.proofs.Places.{found, before, In, in_from, reach, before_same, mapped, map_at}
 

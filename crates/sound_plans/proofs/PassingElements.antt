@@ -1,20 +1,9 @@
 -- Interfaces that serve others: what is said of the data elements of a chain of compatible interfaces.
 use Rattle.std.proofs.Common.{◌≡◌, List, true, ◌&&◌, nat_eq, bytes_eq, Option, Some, None, option_map, refl, sym, ap, ◌∙◌, slice_get}
-use Rattle.std.proofs.lemmas.Bool.{and_parts, eqb-true}
+use Rattle.bus_semantics.specs.Common.{and_parts, eqb-true, list_any, int_eq}
 use Rattle.std.proofs.lemmas.Bool.Decides.{Decides-int_eq}
-use Rattle.std.specs.List.{list_any}
-use Rattle.std.specs.Ordering.{int_eq}
-use Rattle.description_types.specs.declared.base_type.DataType.{DataType}
-use Rattle.description_types.specs.declared.interface.DataElement.{DataElement}
-use Rattle.description_types.specs.declared.interface.Interface.{Interface}
-use Rattle.description_types.specs.declared.interface.InterfaceKind.{InterfaceKind}
-use Rattle.description_types.specs.declared.interface.InterfaceKind.TheVariants.{ClientServer, ModeSwitch, SenderReceiver}
-use Rattle.description_types.specs.declared.interface.SwImplPolicy.{SwImplPolicy}
-use Rattle.description_types.specs.declared.interface.SwImplPolicy.TheVariants.{Queued, Standard}
-use Rattle.description_types.specs.declared.interface.TypeTable.{TypeTable}
-use Rattle.plan_definitions.specs.Interfaces.{same_policy, serve_elements, serves, serves_element, serves_in}
-use Rattle.plan_definitions.specs.Types.{agree, are_compatible_types, base_number, types_agree}
-use Rattle.description_types.specs.Members.{Among}
+use Rattle.plan_definitions.specs.Common.{DataType, DataElement, Interface, InterfaceKind, ClientServer, ModeSwitch, SenderReceiver, SwImplPolicy, Queued, Standard, TypeTable, same_policy}
+use Rattle.plan_definitions.specs.Common.{serve_elements, serves, serves_element, serves_in, agree, are_compatible_types, base_number, types_agree, Among}
 use Rattle.plan_definitions.proofs.Lists.{all_at, any_at, same_bytes}
 use Rattle.plan_definitions.proofs.Chains.{IsPassed}
 

@@ -1,26 +1,14 @@
 -- Interfaces that serve others: operations keep their arguments along a chain of compatible interfaces, and mode elements their modes.
-use Rattle.std.proofs.Common.{◌≡◌, ℕ, List, [], ◌∷◌, map, filter, length, Bool, true, false, cond, ◌&&◌, ◌==◌, nat_eq, bytes_eq, Option, Some, None, option_map, zip, refl, ap, subst, ◌∙◌, arith, slice_get}
+use Rattle.std.proofs.Common.{◌≡◌, ℕ, List, [], ◌∷◌, map, filter, length, Bool, true, false, cond, ◌&&◌, ◌==◌, nat_eq, bytes_eq, Option, Some, None, option_map, zip, refl, ap, subst, ◌∙◌}
+use Rattle.std.proofs.Common.{arith, slice_get}
 use Rattle.std.specs.Prelude.{pos}
-use Rattle.std.proofs.lemmas.Bool.{false≢true, eqb-true, and_parts}
+use Rattle.bus_semantics.specs.Common.{false≢true, eqb-true, and_parts, list_all, list_any, option_map_or, int_eq}
 use Rattle.std.proofs.lemmas.Bool.Decides.{Decides-int_eq}
 use Rattle.std.specs.Cmp.Lexicographic.{pointwise}
-use Rattle.std.specs.List.{list_all, list_any}
-use Rattle.std.specs.Option.{option_map_or}
-use Rattle.std.specs.Ordering.{int_eq}
-use Rattle.description_types.specs.declared.base_type.DataType.{DataType}
-use Rattle.description_types.specs.declared.interface.Argument.{Argument}
-use Rattle.description_types.specs.declared.interface.Direction.{Direction}
-use Rattle.description_types.specs.declared.interface.Direction.TheVariants.{In, Out}
-use Rattle.description_types.specs.declared.interface.Interface.{Interface}
-use Rattle.description_types.specs.declared.interface.InterfaceKind.{InterfaceKind}
-use Rattle.description_types.specs.declared.interface.InterfaceKind.TheVariants.{ClientServer, ModeSwitch, SenderReceiver}
-use Rattle.description_types.specs.declared.interface.ModeElement.{ModeElement}
-use Rattle.description_types.specs.declared.interface.ModeGroup.{ModeGroup}
-use Rattle.description_types.specs.declared.interface.Operation.{Operation}
-use Rattle.description_types.specs.declared.interface.TypeTable.{TypeTable}
-use Rattle.plan_definitions.specs.Interfaces.{same_argument, same_arguments, same_direction, same_modes, serves, serves_in, serves_operation}
-use Rattle.plan_definitions.specs.Types.{agree, are_compatible_types, base_number, types_agree}
-use Rattle.plan_definitions.specs.Signatures.{arguments_of, goes, limits_of}
+use Rattle.plan_definitions.specs.Common.{DataType, Argument, Direction, In, Out, Interface, InterfaceKind, ClientServer, ModeSwitch, SenderReceiver, ModeElement, ModeGroup, Operation}
+use Rattle.plan_definitions.specs.Common.{TypeTable, same_argument, same_arguments, same_direction, same_modes, serves, serves_in, serves_operation, agree, are_compatible_types, base_number}
+use Rattle.plan_definitions.specs.Common.{types_agree, arguments_of, goes}
+use Rattle.plan_definitions.specs.Signatures.{limits_of}
 use Rattle.plan_definitions.proofs.Chains.{IsPassed}
 use Rattle.plan_definitions.proofs.Lists.{same_bytes}
 use Rattle.sound_plans.proofs.Places.{all_at, any_at}

@@ -1,30 +1,18 @@
 -- The paths of instances: names of prototypes joined by `/`, each once.
-use Rattle.std.proofs.Common.{◌≡◌, ℕ, zero, suc, ◌+◌, ◌<◌, List, [], ◌∷◌, ◌++◌, map, length, slice_get, true, false, not, ◌&&◌, codes, nat_le, Option, Some, None, option_map, option_and_then, inl, inr, ⊎_elim, refl, sym, ap, subst, ◌∙◌, arith, append_assoc, true≢false}
-use Rattle.std.proofs.lemmas.Bool.{and_from, cases_Bool, le-leb}
-use Rattle.std.proofs.lemmas.List.{append_cancel_left, length-map, map-append, map-id}
-use Rattle.std.proofs.lemmas.Slice.Eq.{bytes_eq-Decides}
+use Rattle.std.proofs.Common.{◌≡◌, ℕ, zero, suc, ◌+◌, ◌<◌, List, [], ◌∷◌, ◌++◌, map, length, slice_get, true, false, not, ◌&&◌, codes, nat_le, Option, Some, None, option_map}
+use Rattle.std.proofs.Common.{option_and_then, inl, inr, ⊎_elim, refl, sym, ap, subst, ◌∙◌, arith, append_assoc, true≢false}
+use Rattle.bus_semantics.specs.Common.{and_from, le-leb, length-map, map-append, bytes_eq-Decides, flat_map, list_all, option_map_or, is_env_path, is_name, is_path, none_is_env, parts}
+use Rattle.bus_semantics.specs.Common.{is_in, same_numbers}
+use Rattle.std.proofs.lemmas.Bool.{cases_Bool}
+use Rattle.std.proofs.lemmas.List.{append_cancel_left, map-id}
 use mathlib.Core.List.{map-map}
-use Rattle.std.specs.List.{enumerate_from, flat_map, list_all}
-use Rattle.std.specs.Option.{option_map_or}
+use Rattle.std.specs.List.{enumerate_from}
 use Rattle.std.specs.Str.{bytes_eq}
-use Rattle.description_types.specs.declared.description.Composition.{Composition}
-use Rattle.description_types.specs.declared.description.Description.{Description}
-use Rattle.description_types.specs.declared.description.Prototype.{Prototype}
-use Rattle.description_types.specs.declared.description.PrototypeType.{PrototypeType}
+use Rattle.plan_definitions.specs.Common.{Composition, Description, Prototype, PrototypeType, Flat, Instance, IsFlatOf, Place, places_of, places_below, places, name_in, name_at, prefix_at}
+use Rattle.plan_definitions.specs.Common.{written, instance_at, instances, Among, AllApart, prototypes_of, type_in, type_at, plan_of, seen, IsWellFormed}
 use Rattle.description_types.specs.declared.description.PrototypeType.TheVariants as of
-use Rattle.description_types.specs.declared.flat.Flat.{Flat}
-use Rattle.description_types.specs.declared.flat.Instance.{Instance}
-use Rattle.description_types.specs.Flattening.{IsFlatOf}
-use Rattle.description_types.specs.Places.{Place, places_of, places_below, places}
-use Rattle.description_types.specs.Instances.{name_in, name_at, prefix_at, written, instance_at, instances}
-use Rattle.description_types.specs.Members.{Among, AllApart}
-use Rattle.description_types.specs.Paths.{prototypes_of, type_in, type_at}
 use Rattle.bus_semantics.specs.declared.plan.BusPlan.{BusPlan}
 use Rattle.bus_semantics.specs.Plan as bus
-use Rattle.bus_semantics.specs.SoundNames.{is_env_path, is_name, is_path, none_is_env, parts}
-use Rattle.bus_semantics.specs.SoundPlan.{is_in, same_numbers}
-use Rattle.plan_definitions.specs.Planned.{plan_of, seen}
-use Rattle.plan_definitions.specs.WellFormed.{IsWellFormed}
 use Rattle.plan_definitions.proofs.Lists.{same_numbers_is, all_from, unflat}
 use Rattle.sound_plans.proofs.Apart.{apart_append, apart_map, distinct_apart}
 use Rattle.sound_plans.proofs.Keeping.{Names, of_composition}

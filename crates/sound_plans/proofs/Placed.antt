@@ -1,15 +1,10 @@
 -- What stands at the end of the path of an instance, and the ends of joins.
 use Rattle.std.proofs.Common.{◌≡◌, ℕ, List, [], ◌∷◌, slice_get, true, Option, Some, None, option_and_then, inl, inr, refl, sym, ap, ◌∙◌, true≢false}
 use Rattle.std.proofs.lemmas.Bool.{and_parts}
-use Rattle.description_types.specs.declared.component.PortKind.{PortKind}
-use Rattle.description_types.specs.declared.component.PortKind.TheVariants.{Provided, Required}
-use Rattle.description_types.specs.declared.description.Description.{Description}
+use Rattle.plan_definitions.specs.Common.{PortKind, Provided, Required, Description, is_one_kind, is_required, kind_in, Place, places, Delegates, IsBelow, Stand, StandsJoin, as_inner}
+use Rattle.plan_definitions.specs.Common.{further, itself, type_at, type_in}
 use Rattle.description_types.specs.declared.description.PrototypeType.TheVariants as of
-use Rattle.description_types.specs.Connectors.{is_one_kind, is_provided, is_required, kind_in, kind_of}
-use Rattle.description_types.specs.Places.{Place, places}
-use Rattle.description_types.specs.Joined.{Delegates, IsBelow, Stand, StandsJoin, as_inner}
-use Rattle.description_types.specs.Joined.IsBelow.{further, itself}
-use Rattle.description_types.specs.Paths.{type_at, type_in}
+use Rattle.description_types.specs.Connectors.{is_provided, kind_of}
 use Rattle.plan_definitions.proofs.Lists.{at as get_among}
 use Rattle.plan_definitions.proofs.Stands.{stands}
 

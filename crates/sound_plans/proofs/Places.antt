@@ -1,12 +1,7 @@
 -- Lists by positions: tests at each position, lists joined end to end, first positions.
 use Rattle.std.proofs.Common.{◌≡◌, ℕ, zero, suc, ◌+◌, ◌<◌, ◌≤◌, Bool, true, false, cond, refl, ◌∙◌, ap, subst, arith, List, [], ◌∷◌, ◌++◌, map, filter, length, Some, None, option_map, ◌⊎◌, inl, inr}
-use Rattle.std.specs.List.{list_all, list_any, slice_get, position_from}
-use Rattle.std.specs.Option.{option_map_or}
-use Rattle.std.proofs.lemmas.Bool.{and_from, and_parts, false≢true, or_cases}
-use Rattle.std.proofs.lemmas.Option.{slice_get-map}
-use Rattle.bus_semantics.specs.Plan.{look, every_from}
-use Rattle.plan_definitions.specs.Counts.{count}
-use Rattle.plan_definitions.specs.Lists.{from}
+use Rattle.bus_semantics.specs.Common.{list_all, list_any, slice_get, position_from, option_map_or, and_from, and_parts, false≢true, or_cases, slice_get-map, look, every_from}
+use Rattle.plan_definitions.specs.Common.{count, from}
 use Rattle.bus_laws.proofs.Thinning.{clash}
 
 -- ---- tests

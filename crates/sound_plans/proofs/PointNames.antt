@@ -1,26 +1,10 @@
 -- No runnable, and not the environment, has two points of one name.
 use Rattle.std.proofs.Common.{◌≡◌, ℕ, suc, ◌<◌, Bool, true, false, not, ◌==◌, refl, sym, ◌∙◌, ap, subst, arith, List, [], ◌∷◌, map, length, Some, ◌⊎◌, inl, inr}
-use Rattle.std.specs.List.{slice_get, list_any}
-use Rattle.std.proofs.lemmas.Bool.{and_from, and_parts, eqb-true}
-use Rattle.std.proofs.lemmas.Option.{same_Some, slice_get_within}
-use Rattle.description_types.specs.declared.component.Component.{Component}
+use Rattle.bus_semantics.specs.Common.{slice_get, list_any, and_from, and_parts, eqb-true, same_Some, slice_get_within, plan_of, Named, caller_rank, named_once, same_named, same_numbers}
+use Rattle.plan_definitions.specs.Common.{Component, Description, Flat, pair_number, runnables_of, runnable_of, runnables, callings, point_of, points, IsWhole}
 use Rattle.description_types.specs.declared.component.Runnable as declared_runnable
-use Rattle.description_types.specs.declared.description.Description.{Description}
-use Rattle.description_types.specs.declared.flat.Flat.{Flat}
-use Rattle.bus_semantics.specs.declared.plan.BusPlan.{BusPlan}
-use Rattle.bus_semantics.specs.declared.plan.ElemPlan.{ElemPlan}
-use Rattle.bus_semantics.specs.declared.plan.PointPlan.{PointPlan}
-use Rattle.bus_semantics.specs.declared.script.Mapping.{Mapping}
-use Rattle.bus_semantics.specs.Plan.{plan_of}
-use Rattle.bus_semantics.specs.SoundNames.{Named, caller_rank, named_once, same_named}
-use Rattle.bus_semantics.specs.SoundPlan.{same_numbers}
-use Rattle.plan_definitions.specs.Keys.{pair_number}
-use Rattle.plan_definitions.specs.Parts.{runnables_of}
-use Rattle.plan_definitions.specs.Started.{runnable_of, runnables}
+use Rattle.bus_laws.specs.Common.{BusPlan, ElemPlan, PointPlan, Mapping}
 use Rattle.plan_definitions.specs.declared.calling.Calling.{Calling}
-use Rattle.plan_definitions.specs.Callings.{callings}
-use Rattle.plan_definitions.specs.Services.{point_of, points}
-use Rattle.plan_definitions.specs.Whole.{IsWhole}
 use Rattle.sound_plans.proofs.Places.{any_at, append_at, map_at, Later}
 use Rattle.sound_plans.proofs.Parts.{numbers_apart, runnable_count, runnable_there}
 use Rattle.sound_plans.proofs.Rules.{planned, plan_is}

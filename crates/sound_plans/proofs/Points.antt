@@ -1,28 +1,12 @@
 -- Calls: each access that calls is a point, whose number is its place; those of the environment stand last.
 use Rattle.std.proofs.Common.{◌≡◌, ℕ, zero, suc, ◌+◌, ◌<◌, ◌≤◌, Bool, true, false, ◌==◌, nat_eq, refl, sym, ◌∙◌, ap, subst, arith, List, [], ◌∷◌, ◌++◌, length, Some, ◌⊎◌, inl, inr}
-use Rattle.std.specs.List.{slice_get, flat_map}
-use Rattle.std.proofs.lemmas.Bool.{eqb-true, eq-eqb, and_from, and_parts}
-use Rattle.std.proofs.lemmas.Option.{same_Some, slice_get_within}
-use Rattle.runnable_lang.specs.declared.program.AccessKind.{AccessKind}
+use Rattle.bus_semantics.specs.Common.{slice_get, flat_map, eqb-true, eq-eqb, and_from, and_parts, same_Some, slice_get_within, AccessKind}
 use Rattle.runnable_lang.specs.declared.program.AccessKind.TheVariants as kind
-use Rattle.description_types.specs.declared.component.Access.{Access}
-use Rattle.description_types.specs.declared.component.Component.{Component}
-use Rattle.description_types.specs.declared.component.Port.{Port}
-use Rattle.description_types.specs.declared.component.PortKind.{PortKind}
-use Rattle.description_types.specs.declared.component.PortKind.TheVariants.{Provided, Required}
-use Rattle.description_types.specs.declared.component.Runnable.{Runnable}
-use Rattle.description_types.specs.declared.description.Description.{Description}
-use Rattle.description_types.specs.declared.flat.Flat.{Flat}
-use Rattle.bus_semantics.specs.declared.plan.BusPlan.{BusPlan}
-use Rattle.bus_semantics.specs.declared.script.Mapping.{Mapping}
-use Rattle.plan_definitions.specs.Calls.{called_by, left_by, called, left, is_left, access_keeps}
-use Rattle.plan_definitions.specs.Counts.{count, same_operation}
-use Rattle.plan_definitions.specs.Lists.{from, positions}
-use Rattle.plan_definitions.specs.Parts.{of_instances}
-use Rattle.plan_definitions.specs.Sites.{root_ports}
+use Rattle.plan_definitions.specs.Common.{Access, Component, Port, PortKind, Provided, Required, Runnable, Description, Flat, called_by, left_by, called, left, is_left, access_keeps, count}
+use Rattle.plan_definitions.specs.Common.{same_operation, from, positions, of_instances, root_ports, calling_of, callings_in, callings_of_component, operations_at, outer_calling}
+use Rattle.plan_definitions.specs.Common.{outer_callings, callings, IsWhole}
+use Rattle.bus_laws.specs.Common.{BusPlan, Mapping}
 use Rattle.plan_definitions.specs.declared.calling.Calling.{Calling}
-use Rattle.plan_definitions.specs.Callings.{calling_of, callings_in, callings_of_component, operations_at, outer_calling, outer_callings, callings}
-use Rattle.plan_definitions.specs.Whole.{IsWhole}
 use Rattle.plan_definitions.proofs.Lists.{many_positions, position_there}
 use Rattle.sound_plans.proofs.Places.{before, in_from, reach, within_before, append_left, Later, map_at, counted_at, once}
 use Rattle.sound_plans.proofs.Members.{Has, has_flat}

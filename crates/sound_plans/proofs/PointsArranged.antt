@@ -1,36 +1,16 @@
 -- Points stand by runnable and access, and those of the environment come last.
-use Rattle.std.proofs.Common.{◌≡◌, ℕ, zero, suc, ◌+◌, ◌<◌, Bool, true, false, cond, ◌&&◌, ◌||◌, ◌==◌, refl, sym, ◌∙◌, ap, subst, arith, append_assoc, length-append, List, [], ◌∷◌, ◌++◌, map, length, Option, Some, None, ◌⊎◌, inl, inr}
+use Rattle.std.proofs.Common.{◌≡◌, ℕ, zero, suc, ◌+◌, ◌<◌, Bool, true, false, cond, ◌&&◌, ◌||◌, ◌==◌, refl, sym, ◌∙◌, ap, subst, arith, append_assoc, length-append, List, [], ◌∷◌, ◌++◌, map}
+use Rattle.std.proofs.Common.{length, Option, Some, None, ◌⊎◌, inl, inr}
 use Rattle.std.specs.Prelude.{nat_lt, is_none}
-use Rattle.std.specs.List.{slice_get, flat_map}
-use Rattle.std.specs.Option.{option_map_or}
-use Rattle.std.proofs.lemmas.List.{append-nil, length-map}
-use Rattle.std.proofs.lemmas.Option.{same_Some, slice_get_within}
-use Rattle.std.proofs.lemmas.Bool.{and_from, eq-eqb, lt-ltb, or_left, or_right}
-use Rattle.runnable_lang.specs.declared.program.AccessKind.{AccessKind}
+use Rattle.bus_semantics.specs.Common.{slice_get, flat_map, option_map_or, append-nil, length-map, same_Some, slice_get_within, and_from, eq-eqb, lt-ltb, or_left, or_right, AccessKind}
+use Rattle.bus_semantics.specs.Common.{AccessSig, plan_of, every_from, gathered, called_points, points_arranged, same_numbers}
 use Rattle.runnable_lang.specs.declared.program.AccessKind.TheVariants as kind
-use Rattle.runnable_lang.specs.declared.program.AccessSig.{AccessSig}
-use Rattle.description_types.specs.declared.component.Access.{Access}
-use Rattle.description_types.specs.declared.component.Component.{Component}
+use Rattle.plan_definitions.specs.Common.{Access, Component, Description, Flat, Instance, access_sig, from, target_of, runnable_of, runnables_of_component, runnables, calling_of}
+use Rattle.plan_definitions.specs.Common.{callings_in, callings_of_component, callings, is_calling, point_number, point_of, points, IsWhole}
 use Rattle.description_types.specs.declared.component.Runnable as declared_runnable
-use Rattle.description_types.specs.declared.description.Description.{Description}
-use Rattle.description_types.specs.declared.flat.Flat.{Flat}
-use Rattle.description_types.specs.declared.flat.Instance.{Instance}
-use Rattle.bus_semantics.specs.declared.plan.BusPlan.{BusPlan}
-use Rattle.bus_semantics.specs.declared.plan.ElemPlan.{ElemPlan}
-use Rattle.bus_semantics.specs.declared.plan.PointPlan.{PointPlan}
-use Rattle.bus_semantics.specs.declared.script.Mapping.{Mapping}
-use Rattle.bus_semantics.specs.Plan.{plan_of, every_from}
+use Rattle.bus_laws.specs.Common.{BusPlan, ElemPlan, PointPlan, Mapping}
 use Rattle.bus_semantics.specs.Plan as plan
-use Rattle.bus_semantics.specs.Rest.{gathered}
-use Rattle.bus_semantics.specs.SoundAccesses.{called_points, points_arranged}
-use Rattle.bus_semantics.specs.SoundPlan.{same_numbers}
-use Rattle.plan_definitions.specs.Signatures.{access_sig}
-use Rattle.plan_definitions.specs.Lists.{from}
-use Rattle.plan_definitions.specs.Started.{target_of, runnable_of, runnables_of_component, runnables}
 use Rattle.plan_definitions.specs.declared.calling.Calling.{Calling}
-use Rattle.plan_definitions.specs.Callings.{calling_of, callings_in, callings_of_component, callings, is_calling, point_number}
-use Rattle.plan_definitions.specs.Services.{point_of, points}
-use Rattle.plan_definitions.specs.Whole.{IsWhole}
 use Rattle.plan_definitions.proofs.Lists.{map_from}
 use Rattle.sound_plans.proofs.Places.{every_if, map_at, append_at, Later}
 use Rattle.sound_plans.proofs.Rules.{planned, plan_is}

@@ -1,36 +1,15 @@
 -- One port name of an instance, or of the environment, is one port, and so it is used in one way.
 use Rattle.std.proofs.Common.{◌≡◌, ℕ, ◌<◌, List, [], ◌∷◌, filter, true, false, cond, not, ◌&&◌, nat_eq, Option, Some, None, option_map, is_none, is_some, ⊎_elim, sym, ap, subst, ◌∙◌, true≢false}
-use Rattle.std.proofs.lemmas.Bool.{and_parts, and_right, cases_Bool, eq-eqb, eqb-true, or_left, or_right}
-use Rattle.std.specs.List.{list_all}
-use Rattle.std.specs.Option.{unwrap_or}
-use Rattle.description_types.specs.declared.interface.InterfaceKind.{InterfaceKind}
-use Rattle.description_types.specs.declared.interface.InterfaceKind.TheVariants.{SenderReceiver, ClientServer, ModeSwitch}
-use Rattle.description_types.specs.declared.component.PortKind.{PortKind}
-use Rattle.description_types.specs.declared.description.Description.{Description}
-use Rattle.description_types.specs.declared.flat.Flat.{Flat}
-use Rattle.description_types.specs.Members.{Among}
-use Rattle.bus_semantics.specs.declared.plan.BusPlan.{BusPlan}
-use Rattle.bus_semantics.specs.declared.plan.ElemPlan.{ElemPlan}
-use Rattle.bus_semantics.specs.declared.plan.MachinePlan.{MachinePlan}
-use Rattle.bus_semantics.specs.declared.plan.ModePortPlan.{ModePortPlan}
-use Rattle.bus_semantics.specs.declared.plan.PointPlan.{PointPlan}
-use Rattle.bus_semantics.specs.declared.plan.ServerPlan.{ServerPlan}
+use Rattle.bus_semantics.specs.Common.{and_parts, and_right, eq-eqb, eqb-true, or_left, or_right, list_all, unwrap_or, PortUse, parts, point_rank, port_of, port_uses, ports_agree, used}
+use Rattle.bus_semantics.specs.Common.{uses_agree, is_variable, rank, same_numbers}
+use Rattle.std.proofs.lemmas.Bool.{cases_Bool}
+use Rattle.plan_definitions.specs.Common.{InterfaceKind, SenderReceiver, ClientServer, ModeSwitch, PortKind, Description, Flat, Among, is_element, pair_number, runnables_of, kind_at}
+use Rattle.plan_definitions.specs.Common.{provides_at, sites, Elem, elem_seen, element_of, group_of, is_provided, item_name, item_text, elements_of, machines_of, mode_ports_of, servers_of}
+use Rattle.plan_definitions.specs.Common.{callings, owner_of, machine_at, machines, mode_port_at, mode_ports, point_of, points, server_of, servers, plan_of, seen, IsRefusal, item_count}
+use Rattle.plan_definitions.specs.Common.{IsWellFormed}
+use Rattle.bus_laws.specs.Common.{BusPlan, ElemPlan, MachinePlan, ModePortPlan, PointPlan, ServerPlan}
 use Rattle.bus_semantics.specs.Plan as bus
-use Rattle.bus_semantics.specs.SoundNames.{PortUse, parts, point_rank, port_of, port_uses, ports_agree, used, uses_agree}
-use Rattle.bus_semantics.specs.SoundPlan.{is_variable, rank, same_numbers}
 use Rattle.plan_definitions.specs.declared.site.Site.{Site}
-use Rattle.plan_definitions.specs.Keys.{is_element, pair_number}
-use Rattle.plan_definitions.specs.Parts.{runnables_of}
-use Rattle.plan_definitions.specs.Sites.{kind_at, provides_at, sites}
-use Rattle.plan_definitions.specs.Elements.{Elem, elem_seen, element_of, group_of, is_provided}
-use Rattle.plan_definitions.specs.Ports.{item_name, item_text}
-use Rattle.plan_definitions.specs.Things.{elements_of, machines_of, mode_ports_of, servers_of}
-use Rattle.plan_definitions.specs.Callings.{callings, owner_of}
-use Rattle.plan_definitions.specs.Modes.{machine_at, machines, mode_port_at, mode_ports}
-use Rattle.plan_definitions.specs.Services.{point_of, points, server_of, servers}
-use Rattle.plan_definitions.specs.Planned.{plan_of, seen}
-use Rattle.plan_definitions.specs.PlanRefusals.{IsRefusal}
-use Rattle.plan_definitions.specs.WellFormed.{item_count, IsWellFormed}
 use Rattle.plan_definitions.proofs.Lists.{same_numbers_is, all_from, cases}
 use Rattle.sound_plans.proofs.Calls.{IsCaller, call_is}
 use Rattle.sound_plans.proofs.Homes.{home_is}

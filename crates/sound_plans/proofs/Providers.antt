@@ -1,47 +1,22 @@
 -- Who provides: a required operation that is joined is served by an instance, with its arguments; required modes have a machine.
 use Rattle.std.proofs.Common.{◌≡◌, ℕ, ◌+◌, List, [], ◌∷◌, map, filter, length, Bool, true, false, cond, Option, Some, None, option_map, option_and_then, refl, sym, ap, subst, ◌∙◌, arith, slice_get}
 use Rattle.std.specs.Prelude.{is_some}
-use Rattle.std.specs.List.{find, list_all}
-use Rattle.std.specs.Option.{option_map_or, unwrap_or}
-use Rattle.std.proofs.lemmas.Bool.{and_parts, false≢true, or_parts}
-use Rattle.std.proofs.lemmas.Option.{same_Some}
-use Rattle.description_types.specs.declared.component.Component.{Component}
-use Rattle.description_types.specs.declared.component.Port.{Port}
-use Rattle.description_types.specs.declared.component.PortKind.{PortKind}
-use Rattle.description_types.specs.declared.component.PortKind.TheVariants.{Provided, Required}
-use Rattle.description_types.specs.declared.description.Description.{Description}
+use Rattle.bus_semantics.specs.Common.{find, list_all, option_map_or, unwrap_or, and_parts, false≢true, or_parts, same_Some}
+use Rattle.plan_definitions.specs.Common.{Component, Port, PortKind, Provided, Required, Description, Interface, InterfaceKind, ClientServer, ModeSwitch, ModeElement, ModeGroup, Operation}
+use Rattle.plan_definitions.specs.Common.{End, Flat, Instance, Join, interface_at, ItemsJoin, operation_names, IsSameName, requires_server, same_end, end_at, provider_of, key_of, end_key}
+use Rattle.plan_definitions.specs.Common.{is_machine, is_mode_port, keys_of, of_kind, number_in, component_of, kind_at, count_at, shape_at, provides_at, root_ports, site, port_of}
+use Rattle.plan_definitions.specs.Common.{interface_of, machine_for, machine_number, machines_of, mode_port_number, mode_ports_of, has_machine, group_in, machine_at, machines, mode_port_at}
+use Rattle.plan_definitions.specs.Common.{mode_ports, IsWhole}
 use Rattle.description_types.specs.declared.description.PrototypeType.TheVariants as of_type
-use Rattle.description_types.specs.declared.interface.Interface.{Interface}
-use Rattle.description_types.specs.declared.interface.InterfaceKind.{InterfaceKind}
-use Rattle.description_types.specs.declared.interface.InterfaceKind.TheVariants.{ClientServer, ModeSwitch}
-use Rattle.description_types.specs.declared.interface.ModeElement.{ModeElement}
-use Rattle.description_types.specs.declared.interface.ModeGroup.{ModeGroup}
-use Rattle.description_types.specs.declared.interface.Operation.{Operation}
-use Rattle.description_types.specs.declared.flat.End.{End}
-use Rattle.description_types.specs.declared.flat.Flat.{Flat}
-use Rattle.description_types.specs.declared.flat.Instance.{Instance}
-use Rattle.description_types.specs.declared.flat.Join.{Join}
-use Rattle.description_types.specs.Items.{interface_at, ItemsJoin, operation_names, IsSameName}
 use Rattle.plan_definitions.specs.Connectors as connectors
-use Rattle.plan_definitions.specs.Connectors.{requires_server}
 use Rattle.plan_definitions.specs.JoinedItems as items
 use Rattle.plan_definitions.specs.Joins as sides
 use Rattle.plan_definitions.specs.declared.join_rule.JoinRule.TheVariants.{Services}
-use Rattle.bus_semantics.specs.declared.plan.BusPlan.{BusPlan}
-use Rattle.bus_semantics.specs.declared.plan.MachinePlan.{MachinePlan}
-use Rattle.bus_semantics.specs.declared.script.Mapping.{Mapping}
+use Rattle.bus_laws.specs.Common.{BusPlan, MachinePlan, Mapping}
 use Rattle.plan_definitions.specs.declared.item.Item.TheVariants.{Modes}
 use Rattle.plan_definitions.specs.declared.site.Site.{Site}
 use Rattle.plan_definitions.specs.declared.site.SiteKind.TheVariants.{Machine, ModePort}
-use Rattle.plan_definitions.specs.Joined.{same_end, end_at, provider_of}
-use Rattle.plan_definitions.specs.Keys.{key_of, end_key, is_machine, is_mode_port, keys_of, of_kind, number_in}
-use Rattle.plan_definitions.specs.Parts.{component_of}
-use Rattle.plan_definitions.specs.Sites.{kind_at, count_at, shape_at, provides_at, root_ports, site}
-use Rattle.plan_definitions.specs.Ports.{port_of, interface_of}
-use Rattle.plan_definitions.specs.Things.{machine_for, machine_number, machines_of, mode_port_number, mode_ports_of, has_machine}
-use Rattle.plan_definitions.specs.Modes.{group_in, machine_at, machines, mode_port_at, mode_ports}
 use Rattle.plan_definitions.specs.WellFormed as formed
-use Rattle.plan_definitions.specs.Whole.{IsWhole}
 use Rattle.plan_definitions.proofs.Firsts.{first_none, or_none}
 use Rattle.plan_definitions.proofs.Lists.{is_there}
 use Rattle.sound_plans.proofs.Places.{not_some, all_at, map_at, mapped, kept}

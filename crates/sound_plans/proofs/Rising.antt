@@ -1,11 +1,7 @@
 -- Lists of numbers that rise between two bounds.
 use Rattle.std.proofs.Common.{◌≡◌, ℕ, suc, ◌+◌, ◌≤◌, List, [], ◌∷◌, ◌++◌, length, map, filter, slice_get, Some, Bool, true, false, cond, refl, sym, subst, arith, inl, inr, nat_le}
-use Rattle.std.proofs.lemmas.Bool.{and_from, le-leb}
-use Rattle.std.proofs.lemmas.List.{map-append}
-use Rattle.std.specs.List.{list_all}
-use Rattle.bus_semantics.specs.SoundPlan.{is_rising}
-use Rattle.description_types.specs.Members.{Among}
-use Rattle.plan_definitions.specs.Lists.{from}
+use Rattle.bus_semantics.specs.Common.{and_from, le-leb, map-append, list_all, is_rising}
+use Rattle.plan_definitions.specs.Common.{Among, from}
 
 abbrev pub Rises : (low high : ℕ) → List ℕ → Type 0
 Rises low high [] = low ≤ high

@@ -1,21 +1,9 @@
 -- What the rules say of a whole description, thing by thing.
 use Rattle.std.proofs.Common.{◌≡◌, ℕ, ◌+◌, Bool, true, false, cond, ◌&&◌, refl, sym, ◌∙◌, ap, arith, List, [], map, length, Option, Some, None, option_map, option_and_then}
-use Rattle.std.specs.List.{slice_get, list_all}
-use Rattle.std.specs.Option.{option_or}
-use Rattle.description_types.specs.declared.component.Access.{Access}
-use Rattle.description_types.specs.declared.component.Component.{Component}
-use Rattle.description_types.specs.declared.component.Event.{Event}
-use Rattle.description_types.specs.declared.component.ItemPair.{ItemPair}
-use Rattle.description_types.specs.declared.component.Port.{Port}
-use Rattle.description_types.specs.declared.component.Runnable.{Runnable}
-use Rattle.description_types.specs.declared.component.Variable.{Variable}
-use Rattle.description_types.specs.declared.description.Description.{Description}
-use Rattle.description_types.specs.declared.flat.Flat.{Flat}
-use Rattle.description_types.specs.declared.flat.Instance.{Instance}
-use Rattle.bus_semantics.specs.declared.plan.BusPlan.{BusPlan}
-use Rattle.bus_semantics.specs.declared.plan.ElemPlan.{ElemPlan}
-use Rattle.bus_semantics.specs.declared.script.Mapping.{Mapping}
-use Rattle.bus_semantics.specs.Plan.{Plan, plan_of}
+use Rattle.bus_semantics.specs.Common.{slice_get, list_all, option_or, Plan, plan_of}
+use Rattle.plan_definitions.specs.Common.{Access, Component, Event, ItemPair, Port, Runnable, Variable, Description, Flat, Instance, first_of, unless, mapped_as, leaders, groups, machines}
+use Rattle.plan_definitions.specs.Common.{mode_ports, points, servers, events, runnables, bundles, homes, lists, areas, object_count, seen, plan_of as whole_plan, is_too_large, IsWhole}
+use Rattle.bus_laws.specs.Common.{BusPlan, ElemPlan, Mapping}
 use Rattle.plan_definitions.specs.declared.component_rule.ComponentRule as rules
 use Rattle.plan_definitions.specs.declared.component_rule.ComponentRule.TheVariants as rule
 use Rattle.plan_definitions.specs.declared.spot.Spot.TheVariants as spot
@@ -23,25 +11,13 @@ use Rattle.plan_definitions.specs.Accesses as reaches
 use Rattle.plan_definitions.specs.Calls as waiting
 use Rattle.plan_definitions.specs.Coherent as coherent
 use Rattle.plan_definitions.specs.Events as starting
-use Rattle.plan_definitions.specs.Firsts.{first_of, unless}
 use Rattle.plan_definitions.specs.Invocations as serving
 use Rattle.plan_definitions.specs.Programs as programs
 use Rattle.plan_definitions.specs.ComponentRefusals as components
-use Rattle.plan_definitions.specs.Mapped.{mapped_as}
 use Rattle.plan_definitions.specs.MappingRefusals as mapping
 use Rattle.plan_definitions.specs.MappingRules as mapped
-use Rattle.plan_definitions.specs.Elements.{leaders}
-use Rattle.plan_definitions.specs.ElementGroups.{groups}
-use Rattle.plan_definitions.specs.Modes.{machines, mode_ports}
-use Rattle.plan_definitions.specs.Services.{points, servers}
-use Rattle.plan_definitions.specs.Started.{events, runnables}
-use Rattle.plan_definitions.specs.Listed.{bundles, homes, lists}
-use Rattle.plan_definitions.specs.Planned.{areas, object_count, seen}
-use Rattle.plan_definitions.specs.Planned.{plan_of as whole_plan}
 use Rattle.plan_definitions.specs.PlanRefusals as whole
-use Rattle.plan_definitions.specs.PlanRules.{is_too_large}
 use Rattle.plan_definitions.specs.WellFormed as formed
-use Rattle.plan_definitions.specs.Whole.{IsWhole}
 use Rattle.plan_definitions.proofs.Firsts.{first_none, map_none, or_none, unless_none}
 use Rattle.sound_plans.proofs.Places.{not_some, all_at}
 use Rattle.sound_plans.proofs.Parts.{Home}

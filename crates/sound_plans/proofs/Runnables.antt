@@ -1,49 +1,20 @@
 -- Runnables are sound: their accesses, their programs, and the arguments of what they serve.
-use Rattle.std.proofs.Common.{◌≡◌, ℕ, zero, suc, ◌+◌, ◌<◌, Bool, true, false, cond, ◌&&◌, ◌||◌, not, ◌==◌, refl, sym, ◌∙◌, ap, subst, arith, List, [], ◌∷◌, ◌++◌, map, length, Option, Some, None, option_map, option_and_then}
-use Rattle.std.proofs.lemmas.Bool.{and_from, and_parts, eq-eqb, false≢true, lt-ltb, ltb-true, ne_eqb}
-use Rattle.std.proofs.lemmas.List.{length-map}
-use Rattle.std.proofs.lemmas.Option.{same_Some}
-use Rattle.std.specs.Arc.{arc_value}
+use Rattle.std.proofs.Common.{◌≡◌, ℕ, zero, suc, ◌+◌, ◌<◌, Bool, true, false, cond, ◌&&◌, ◌||◌, not, ◌==◌, refl, sym, ◌∙◌, ap, subst, arith, List, [], ◌∷◌, ◌++◌, map, length, Option, Some}
+use Rattle.std.proofs.Common.{None, option_map, option_and_then}
+use Rattle.bus_semantics.specs.Common.{and_from, and_parts, eq-eqb, false≢true, lt-ltb, ltb-true, ne_eqb, length-map, same_Some, arc_value, slice_get, list_any, list_all, option_map_or}
+use Rattle.bus_semantics.specs.Common.{AccessKind, AccessSig, body_cost, first, ProgramTree, program_tree, Runnable, plan_of, look, every_from, access_sound, each_access, is_well_formed}
+use Rattle.bus_semantics.specs.Common.{body_sound, has_arguments, runnable_sound, same_kind}
 use Rattle.std.specs.Prelude.{nat_lt, nat_le, is_none}
-use Rattle.std.specs.List.{slice_get, list_any, list_all}
-use Rattle.std.specs.Option.{option_map_or}
-use Rattle.runnable_lang.specs.declared.program.AccessKind.{AccessKind}
 use Rattle.runnable_lang.specs.declared.program.AccessKind.TheVariants as kind
-use Rattle.runnable_lang.specs.declared.program.AccessSig.{AccessSig}
-use Rattle.runnable_lang.specs.Costs.{body_cost}
-use Rattle.runnable_lang.specs.Places.{first}
 use Rattle.runnable_lang.specs.Refusals as program
-use Rattle.runnable_lang.specs.Trees.{ProgramTree, program_tree}
-use Rattle.description_types.specs.declared.interface.Interface.{Interface}
-use Rattle.description_types.specs.declared.interface.Operation.{Operation}
-use Rattle.description_types.specs.declared.interface.TypeTable.{TypeTable}
-use Rattle.description_types.specs.declared.component.Access.{Access}
-use Rattle.description_types.specs.declared.component.Component.{Component}
-use Rattle.description_types.specs.declared.component.Event.{Event}
+use Rattle.plan_definitions.specs.Common.{Interface, Operation, TypeTable, Access, Component, Event, Port, Description, Flat, program_refusal, path_of, access_sig, signature, elem_seen}
+use Rattle.plan_definitions.specs.Common.{elements, server_number, target_of, served_by, served_number, runnable_of, runnables, argument_of, server_at, servers, IsWhole}
 use Rattle.description_types.specs.declared.component.EventKind as declared_kind
 use Rattle.description_types.specs.declared.component.EventKind.TheVariants as declared_event
-use Rattle.description_types.specs.declared.component.Port.{Port}
 use Rattle.description_types.specs.declared.component.Runnable as declared_runnable
-use Rattle.description_types.specs.declared.description.Description.{Description}
-use Rattle.description_types.specs.declared.flat.Flat.{Flat}
-use Rattle.bus_semantics.specs.declared.plan.ArgPlan.{ArgPlan}
-use Rattle.bus_semantics.specs.declared.plan.BusPlan.{BusPlan}
-use Rattle.bus_semantics.specs.declared.plan.ElemPlan.{ElemPlan}
-use Rattle.bus_semantics.specs.declared.plan.ServerPlan.{ServerPlan}
-use Rattle.bus_semantics.specs.declared.script.Mapping.{Mapping}
-use Rattle.bus_semantics.specs.Plan.{Runnable, plan_of, look, every_from}
+use Rattle.bus_laws.specs.Common.{ArgPlan, BusPlan, ElemPlan, ServerPlan, Mapping}
 use Rattle.bus_semantics.specs.SoundAccesses as sound
-use Rattle.bus_semantics.specs.SoundAccesses.{access_sound, each_access}
-use Rattle.bus_semantics.specs.SoundPrograms.{is_well_formed, body_sound, has_arguments, runnable_sound}
-use Rattle.bus_semantics.specs.State.{same_kind}
-use Rattle.plan_definitions.specs.Programs.{program_refusal, path_of}
-use Rattle.plan_definitions.specs.Signatures.{access_sig, signature}
-use Rattle.plan_definitions.specs.Elements.{elem_seen, elements}
-use Rattle.plan_definitions.specs.Things.{server_number}
-use Rattle.plan_definitions.specs.Started.{target_of, served_by, served_number, runnable_of, runnables}
-use Rattle.plan_definitions.specs.Services.{argument_of, server_at, servers}
 use Rattle.plan_definitions.specs.WellFormed as formed
-use Rattle.plan_definitions.specs.Whole.{IsWhole}
 use Rattle.sound_plans.proofs.Places.{not_some, all_at, every_if, looked}
 use Rattle.sound_plans.proofs.Parts.{Home, RunnableAt, area_count, number_is, pairs_in, runnable_at, start}
 use Rattle.sound_plans.proofs.Rules.{planned, plan_is, program_kept, runnable_formed, serves_formed}

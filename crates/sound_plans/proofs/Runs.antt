@@ -1,12 +1,8 @@
 -- Lists of things that stand by their owners: the owners' numbers rise, so each owner has a run of things that follow one another.
-use Rattle.std.proofs.Common.{◌≡◌, ℕ, zero, suc, ◌+◌, ◌<◌, List, [], ◌∷◌, ◌++◌, length, map, filter, Bool, true, false, cond, nat_eq, Some, inl, inr, refl, sym, ap, subst, ◌∙◌, arith, append_assoc, slice_get}
-use Rattle.std.proofs.lemmas.Bool.{eq-eqb, ne_eqb}
-use Rattle.std.proofs.lemmas.List.{append-nil, length-append, length-map, map-append}
-use Rattle.std.proofs.lemmas.List.Elements.{filter-append}
-use Rattle.std.specs.List.{flat_map}
-use Rattle.description_types.specs.Members.{Among}
-use Rattle.plan_definitions.specs.ElementGroups.{member_at}
-use Rattle.plan_definitions.specs.Lists.{from, positions}
+use Rattle.std.proofs.Common.{◌≡◌, ℕ, zero, suc, ◌+◌, ◌<◌, List, [], ◌∷◌, ◌++◌, length, map, filter, Bool, true, false, cond, nat_eq, Some, inl, inr, refl, sym, ap, subst, ◌∙◌, arith}
+use Rattle.std.proofs.Common.{append_assoc, slice_get}
+use Rattle.bus_semantics.specs.Common.{eq-eqb, ne_eqb, append-nil, length-append, length-map, map-append, filter-append, flat_map}
+use Rattle.plan_definitions.specs.Common.{Among, member_at, from, positions}
 use Rattle.plan_definitions.proofs.Lists.{out_from, out_positions}
 
 -- ---- lists joined end to end

@@ -1,29 +1,11 @@
 -- What is named alike is the same.
 use Rattle.std.proofs.Common.{◌≡◌, ℕ, ◌<◌, List, [], ◌∷◌, map, length, slice_get, true, ◌&&◌, nat_eq, Option, Some, None, option_map, ◌⊎◌, inl, inr, refl, sym, ap, subst, ◌∙◌, arith, true≢false}
-use Rattle.std.specs.List.{list_all}
-use Rattle.std.proofs.lemmas.Bool.{and_parts}
-use Rattle.std.proofs.lemmas.Option.{slice_get-map}
-use Rattle.std.specs.Option.{option_map_or}
-use Rattle.description_types.specs.declared.interface.DataElement.{DataElement}
-use Rattle.description_types.specs.declared.interface.Interface.{Interface}
-use Rattle.description_types.specs.declared.interface.InterfaceKind.{InterfaceKind}
-use Rattle.description_types.specs.declared.interface.InterfaceKind.TheVariants.{SenderReceiver, ClientServer, ModeSwitch}
-use Rattle.description_types.specs.declared.interface.Operation.{Operation}
-use Rattle.description_types.specs.declared.interface.TypeTable.{TypeTable}
-use Rattle.description_types.specs.declared.component.Port.{Port}
-use Rattle.description_types.specs.declared.component.Variable.{Variable}
-use Rattle.description_types.specs.declared.description.Description.{Description}
-use Rattle.description_types.specs.declared.flat.Flat.{Flat}
+use Rattle.bus_semantics.specs.Common.{list_all, and_parts, slice_get-map, option_map_or, is_name, is_pair_name, parts, rank}
+use Rattle.plan_definitions.specs.Common.{DataElement, Interface, InterfaceKind, SenderReceiver, ClientServer, ModeSwitch, Operation, TypeTable, Port, Variable, Description, Flat}
+use Rattle.plan_definitions.specs.Common.{component_of, kind_at, item_name, item_text, ports_of, site_name, plan_of, seen, item_count, kind_fits, names_fit, IsWellFormed}
 use Rattle.bus_semantics.specs.declared.plan.BusPlan.{BusPlan}
 use Rattle.bus_semantics.specs.Plan as bus
-use Rattle.bus_semantics.specs.SoundNames.{is_name, is_pair_name, parts}
-use Rattle.bus_semantics.specs.SoundPlan.{rank}
 use Rattle.plan_definitions.specs.declared.site.Site.{Site}
-use Rattle.plan_definitions.specs.Parts.{component_of}
-use Rattle.plan_definitions.specs.Sites.{kind_at}
-use Rattle.plan_definitions.specs.Ports.{item_name, item_text, ports_of, site_name}
-use Rattle.plan_definitions.specs.Planned.{plan_of, seen}
-use Rattle.plan_definitions.specs.WellFormed.{item_count, kind_fits, names_fit, IsWellFormed}
 use Rattle.plan_definitions.proofs.Lists.{there as get_some}
 use Rattle.sound_plans.proofs.Apart.{distinct_apart, one_place}
 use Rattle.sound_plans.proofs.ItemNames.{item_named, item_site_name, port_named, site_text_fits, text_is, variable_fits, variable_site_name}

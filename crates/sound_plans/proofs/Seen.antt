@@ -1,16 +1,8 @@
 -- The lists of a plan that is the one of a description.
 use Rattle.std.proofs.Common.{◌≡◌, length, map, ap, ◌∙◌}
-use Rattle.std.proofs.lemmas.List.{length-map}
-use Rattle.description_types.specs.declared.description.Description.{Description}
-use Rattle.description_types.specs.declared.flat.Flat.{Flat}
-use Rattle.description_types.specs.declared.flat.Instance.{Instance}
+use Rattle.bus_semantics.specs.Common.{length-map, runnable_of}
+use Rattle.plan_definitions.specs.Common.{Description, Flat, Instance, elem_seen, elements, machines, mode_ports, points, servers, events, runnables, plan_of, seen, areas}
 use Rattle.bus_semantics.specs.declared.plan.BusPlan.{BusPlan}
-use Rattle.bus_semantics.specs.Plan.{runnable_of}
-use Rattle.plan_definitions.specs.Elements.{elem_seen, elements}
-use Rattle.plan_definitions.specs.Modes.{machines, mode_ports}
-use Rattle.plan_definitions.specs.Services.{points, servers}
-use Rattle.plan_definitions.specs.Started.{events, runnables}
-use Rattle.plan_definitions.specs.Planned.{plan_of, seen, areas}
 
 module _ (d : Description) (f : Flat) (p : BusPlan) (is : seen p ≡ plan_of d f) where
   pub names_are : p.names ≡ map (λ (x : Instance). x.path) f.instances

@@ -1,54 +1,21 @@
 -- Servers are sound, and serve the runnables that their events start.
-use Rattle.std.proofs.Common.{◌≡◌, ℕ, zero, suc, ◌+◌, Bool, true, false, cond, ◌&&◌, ◌||◌, not, ◌==◌, nat_eq, refl, sym, ◌∙◌, ap, subst, arith, List, [], ◌∷◌, map, length, Option, Some, None, option_map, option_and_then}
+use Rattle.std.proofs.Common.{◌≡◌, ℕ, zero, suc, ◌+◌, Bool, true, false, cond, ◌&&◌, ◌||◌, not, ◌==◌, nat_eq, refl, sym, ◌∙◌, ap, subst, arith, List, [], ◌∷◌, map, length, Option, Some}
+use Rattle.std.proofs.Common.{None, option_map, option_and_then}
 use Rattle.std.specs.Prelude.{nat_lt, nat_le, pos}
-use Rattle.std.specs.List.{slice_get, list_all, list_any, find}
-use Rattle.std.specs.Option.{option_map_or}
-use Rattle.std.proofs.lemmas.Bool.{false≢true, eqb-true, eq-eqb, and_from, and_parts}
-use Rattle.std.proofs.lemmas.List.{length-map}
-use Rattle.std.proofs.lemmas.Option.{same_Some}
-use Rattle.rte_value.specs.Values.{same_number}
-use Rattle.description_types.specs.declared.base_type.DataType.{DataType}
-use Rattle.description_types.specs.declared.interface.ApplicationError.{ApplicationError}
-use Rattle.description_types.specs.declared.interface.Argument.{Argument}
-use Rattle.description_types.specs.declared.interface.ComSpec.{ComSpec}
-use Rattle.description_types.specs.declared.interface.Interface.{Interface}
-use Rattle.description_types.specs.declared.interface.InterfaceKind.TheVariants.{ClientServer}
-use Rattle.description_types.specs.declared.interface.Operation.{Operation}
-use Rattle.description_types.specs.Ranges.{keeps_range}
-use Rattle.description_types.specs.Refusals.{is_sound, is_sound_argument, one_word, has_distinct_codes}
-use Rattle.description_types.specs.declared.component.Component.{Component}
-use Rattle.description_types.specs.declared.component.Event.{Event}
+use Rattle.bus_semantics.specs.Common.{slice_get, list_all, list_any, find, option_map_or, false≢true, eqb-true, eq-eqb, and_from, and_parts, length-map, same_Some, same_number, Runnable}
+use Rattle.bus_semantics.specs.Common.{plan_of, look, every_from, limits_fit, code_list_fits, queue_fits, server_sound, server_served, serves_back, is_in, is_distinct}
+use Rattle.plan_definitions.specs.Common.{DataType, ApplicationError, Argument, ComSpec, Interface, ClientServer, Operation, keeps_range, is_sound, is_sound_argument, one_word}
+use Rattle.plan_definitions.specs.Common.{has_distinct_codes, Component, Event, Port, Description, Flat, started, is_alone, count, pair_number, events_of, runnables_of, com_spec_of}
+use Rattle.plan_definitions.specs.Common.{queue_length_of, server_number, event_of, events, served_by, served_number, runnable_of, runnables, invoked_by, operation_in, operation_at}
+use Rattle.plan_definitions.specs.Common.{started_by, argument_of, is_numbered_mapped, server_at, servers, IsWhole}
 use Rattle.description_types.specs.declared.component.EventKind as declared_kind
 use Rattle.description_types.specs.declared.component.EventKind.TheVariants as declared_event
-use Rattle.description_types.specs.declared.component.Port.{Port}
 use Rattle.description_types.specs.declared.component.Runnable as declared_runnable
-use Rattle.description_types.specs.declared.description.Description.{Description}
-use Rattle.description_types.specs.declared.flat.Flat.{Flat}
-use Rattle.bus_semantics.specs.declared.plan.ArgPlan.{ArgPlan}
-use Rattle.bus_semantics.specs.declared.plan.BusPlan.{BusPlan}
-use Rattle.bus_semantics.specs.declared.plan.ElemPlan.{ElemPlan}
-use Rattle.bus_semantics.specs.declared.plan.EventKind.{EventKind}
-use Rattle.bus_semantics.specs.declared.plan.EventKind.TheVariants.{Invoked}
-use Rattle.bus_semantics.specs.declared.plan.EventPlan.{EventPlan}
-use Rattle.bus_semantics.specs.declared.plan.ServerPlan.{ServerPlan}
-use Rattle.bus_semantics.specs.declared.script.Mapping.{Mapping}
-use Rattle.bus_semantics.specs.Plan.{Runnable, plan_of, look, every_from}
-use Rattle.bus_semantics.specs.SoundElements.{limits_fit, code_list_fits, queue_fits, server_sound}
-use Rattle.bus_semantics.specs.SoundEvents.{server_served, serves_back}
-use Rattle.bus_semantics.specs.SoundPlan.{is_in, is_distinct}
-use Rattle.plan_definitions.specs.Invocations.{started, is_alone}
+use Rattle.bus_laws.specs.Common.{ArgPlan, BusPlan, ElemPlan, EventKind, Invoked, EventPlan, ServerPlan, Mapping}
 use Rattle.plan_definitions.specs.Signatures.{limits_of}
-use Rattle.plan_definitions.specs.Counts.{count}
-use Rattle.plan_definitions.specs.Keys.{pair_number}
-use Rattle.plan_definitions.specs.Parts.{events_of, runnables_of}
-use Rattle.plan_definitions.specs.Ports.{com_spec_of, queue_length_of}
-use Rattle.plan_definitions.specs.Things.{server_number}
-use Rattle.plan_definitions.specs.Started.{event_of, kind_of, events, serves, served_by, served_number, runnable_of, runnables}
-use Rattle.plan_definitions.specs.Invoked.{invoked_by}
-use Rattle.plan_definitions.specs.Services.{operation_in, operation_at, started_by, argument_of, is_numbered_mapped, server_at, servers}
+use Rattle.plan_definitions.specs.Started.{kind_of, serves}
 use Rattle.plan_definitions.specs.Services as services
 use Rattle.plan_definitions.specs.WellFormed as formed
-use Rattle.plan_definitions.specs.Whole.{IsWhole}
 use Rattle.plan_definitions.proofs.Lists.{there}
 use Rattle.plan_definitions.proofs.Words.{range_fits}
 use Rattle.bus_laws.proofs.Thinning.{option_test}

@@ -1,42 +1,19 @@
 -- Servers: an operation that an instance provides has one event, and its server has the number of its site.
-use Rattle.std.proofs.Common.{◌≡◌, ℕ, zero, suc, ◌+◌, ◌<◌, Bool, true, cond, ◌==◌, nat_eq, refl, sym, ◌∙◌, ap, subst, arith, List, [], ◌∷◌, ◌++◌, length, Option, Some, None, option_map, option_and_then, inl, inr}
-use Rattle.std.specs.List.{slice_get, position_from}
-use Rattle.std.specs.Option.{option_map_or, unwrap_or}
-use Rattle.std.proofs.lemmas.Bool.{false≢true, eqb-true, eq-eqb, and_from, and_parts}
-use Rattle.std.proofs.lemmas.Option.{same_Some, slice_get_within}
-use Rattle.description_types.specs.declared.interface.Interface.{Interface}
-use Rattle.description_types.specs.declared.interface.InterfaceKind.{InterfaceKind}
-use Rattle.description_types.specs.declared.interface.InterfaceKind.TheVariants.{SenderReceiver, ClientServer, ModeSwitch}
-use Rattle.description_types.specs.declared.interface.Operation.{Operation}
-use Rattle.description_types.specs.declared.component.Component.{Component}
-use Rattle.description_types.specs.declared.component.Event.{Event}
-use Rattle.description_types.specs.declared.component.EventKind.{EventKind}
-use Rattle.description_types.specs.declared.component.EventKind.TheVariants.{Timing, Init, DataReceived, OperationInvoked, CallReturns, ModeSwitch as SwitchesMode, ModeSwitchedAck}
-use Rattle.description_types.specs.declared.component.Port.{Port}
-use Rattle.description_types.specs.declared.component.PortKind.{PortKind}
-use Rattle.description_types.specs.declared.component.PortKind.TheVariants.{Provided, Required}
-use Rattle.description_types.specs.declared.description.Description.{Description}
-use Rattle.description_types.specs.declared.flat.Flat.{Flat}
-use Rattle.bus_semantics.specs.declared.plan.BusPlan.{BusPlan}
-use Rattle.bus_semantics.specs.declared.plan.ServerPlan.{ServerPlan}
-use Rattle.bus_semantics.specs.declared.script.Mapping.{Mapping}
+use Rattle.std.proofs.Common.{◌≡◌, ℕ, zero, suc, ◌+◌, ◌<◌, Bool, true, cond, ◌==◌, nat_eq, refl, sym, ◌∙◌, ap, subst, arith, List, [], ◌∷◌, ◌++◌, length, Option, Some, None, option_map}
+use Rattle.std.proofs.Common.{option_and_then, inl, inr}
+use Rattle.bus_semantics.specs.Common.{slice_get, position_from, option_map_or, unwrap_or, false≢true, eqb-true, eq-eqb, and_from, and_parts, same_Some, slice_get_within}
+use Rattle.plan_definitions.specs.Common.{Interface, InterfaceKind, SenderReceiver, ClientServer, ModeSwitch, Operation, Component, Event, EventKind, Timing, Init, DataReceived}
+use Rattle.plan_definitions.specs.Common.{OperationInvoked, CallReturns, ModeSwitchedAck, Port, PortKind, Provided, Required, Description, Flat, each_number, operation_of, invoked}
+use Rattle.plan_definitions.specs.Common.{is_served, item_at, count, same_operation, invokes, invocation_of, key_of, is_server, component_of, kind_at, count_at, shape_at, site, ports_of}
+use Rattle.plan_definitions.specs.Common.{port_of, server_number, servers_of, server_at, server_of, servers, IsWhole}
+use Rattle.description_types.specs.declared.component.EventKind.TheVariants.{ModeSwitch as SwitchesMode}
+use Rattle.bus_laws.specs.Common.{BusPlan, ServerPlan, Mapping}
 use Rattle.plan_definitions.specs.declared.item.Item.TheVariants as item
 use Rattle.plan_definitions.specs.Events as starting
-use Rattle.plan_definitions.specs.Firsts.{each_number}
-use Rattle.plan_definitions.specs.Invocations.{operation_of, invoked, operations_at, is_served, operation_count}
-use Rattle.plan_definitions.specs.Items.{item_at}
-use Rattle.plan_definitions.specs.Counts.{count, same_operation}
-use Rattle.plan_definitions.specs.Mapped.{invokes, invocation_of}
+use Rattle.plan_definitions.specs.Invocations.{operations_at, operation_count}
 use Rattle.plan_definitions.specs.declared.site.Site.{Site}
 use Rattle.plan_definitions.specs.declared.site.SiteKind.{SiteKind}
 use Rattle.plan_definitions.specs.declared.site.SiteKind.TheVariants.{Element, Variable, Server, Machine, ModePort}
-use Rattle.plan_definitions.specs.Keys.{key_of, is_server}
-use Rattle.plan_definitions.specs.Parts.{component_of}
-use Rattle.plan_definitions.specs.Sites.{kind_at, count_at, shape_at, site}
-use Rattle.plan_definitions.specs.Ports.{ports_of, port_of}
-use Rattle.plan_definitions.specs.Things.{server_number, servers_of}
-use Rattle.plan_definitions.specs.Services.{server_at, server_of, servers}
-use Rattle.plan_definitions.specs.Whole.{IsWhole}
 use Rattle.sound_plans.proofs.Places.{not_some, found, counted_at, once, mapped, map_at}
 use Rattle.sound_plans.proofs.Parts.{Home, home_component, component_home}
 use Rattle.sound_plans.proofs.Rules.{kind_kept, served_kept}

@@ -1,15 +1,7 @@
 -- What the kinds of sites say.
 use Rattle.std.proofs.Common.{◌≡◌, ℕ, ◌<◌, List, Bool, true, false, Option, Some, None, refl, sym, arith, true≢false}
-use Rattle.description_types.specs.declared.interface.DataElement.{DataElement}
-use Rattle.description_types.specs.declared.interface.InterfaceKind.{InterfaceKind}
-use Rattle.description_types.specs.declared.interface.InterfaceKind.TheVariants.{SenderReceiver, ClientServer, ModeSwitch}
-use Rattle.description_types.specs.declared.interface.ModeElement.{ModeElement}
-use Rattle.description_types.specs.declared.interface.Operation.{Operation}
-use Rattle.description_types.specs.declared.component.PortKind.{PortKind}
-use Rattle.description_types.specs.declared.component.PortKind.TheVariants.{Provided, Required}
-use Rattle.plan_definitions.specs.Keys.{is_element, is_server, is_machine, is_mode_port}
-use Rattle.plan_definitions.specs.Sites.{provides_at, kind_at, count_at}
-use Rattle.plan_definitions.specs.WellFormed.{item_count}
+use Rattle.plan_definitions.specs.Common.{DataElement, InterfaceKind, SenderReceiver, ClientServer, ModeSwitch, ModeElement, Operation, PortKind, Provided, Required, is_element, is_server}
+use Rattle.plan_definitions.specs.Common.{is_machine, is_mode_port, provides_at, kind_at, count_at, item_count}
 
 pub record IsServer (o : Option ℕ) (side : PortKind) (k : InterfaceKind) (n : ℕ) : Type 0 where
   pub instance : ℕ

@@ -1,21 +1,11 @@
 -- Sites: what stands at a port or is a variable is a site once, and has the number of its place.
 use Rattle.std.proofs.Common.{◌≡◌, ℕ, zero, suc, ◌+◌, ◌<◌, Bool, true, false, cond, refl, sym, ◌∙◌, ap, subst, arith, List, [], ◌∷◌, filter, length, Option, Some, None, ◌⊎◌, inl, inr}
-use Rattle.std.specs.List.{slice_get}
-use Rattle.std.specs.Option.{option_map_or, unwrap_or}
-use Rattle.std.proofs.lemmas.Option.{same_Some, slice_get_within}
-use Rattle.description_types.specs.declared.interface.TypeTable.{TypeTable}
-use Rattle.description_types.specs.declared.component.Component.{Component}
-use Rattle.description_types.specs.declared.component.Port.{Port}
-use Rattle.description_types.specs.declared.description.Description.{Description}
-use Rattle.description_types.specs.declared.flat.Flat.{Flat}
+use Rattle.bus_semantics.specs.Common.{slice_get, option_map_or, unwrap_or, same_Some, slice_get_within}
+use Rattle.plan_definitions.specs.Common.{TypeTable, Component, Port, Description, Flat, Key, key_of, same_key, number_in, keys_of, of_kind, positions, component_of, of_instances, site}
+use Rattle.plan_definitions.specs.Common.{sites_with, shape_at, sites_at, sites_of_ports, variables_of, sites_of_component, root_ports, sites, ports_of, port_of}
 use Rattle.plan_definitions.specs.declared.site.Site.{Site}
 use Rattle.plan_definitions.specs.declared.site.SiteKind.{SiteKind}
 use Rattle.plan_definitions.specs.declared.site.SiteKind.TheVariants.{Variable}
-use Rattle.plan_definitions.specs.Keys.{Key, key_of, same_key, number_in, keys_of, of_kind}
-use Rattle.plan_definitions.specs.Lists.{positions}
-use Rattle.plan_definitions.specs.Parts.{component_of, of_instances}
-use Rattle.plan_definitions.specs.Sites.{site, sites_with, shape_at, sites_at, sites_of_ports, variables_of, sites_of_component, root_ports, sites}
-use Rattle.plan_definitions.specs.Ports.{ports_of, port_of}
 use Rattle.plan_definitions.proofs.Keys.{same_key_is, same_key_refl}
 use Rattle.plan_definitions.proofs.Lists.{many_positions, position_there}
 use Rattle.sound_plans.proofs.Places.{not_some, found, before, In, in_from, reach, mapped, map_at, append_left, append_right, append_at, Later, kept, kept_at}

@@ -1,20 +1,11 @@
 -- The sites of a description: items of ports, and variables.
 use Rattle.std.proofs.Common.{◌≡◌, ℕ, ◌<◌, List, [], length, slice_get, Option, Some, None, option_map, option_and_then, ◌⊎◌, inl, inr, ⊎_elim, refl, sym, ap, subst, ◌∙◌, arith}
 use Rattle.std.specs.Option.{option_map_or}
-use Rattle.description_types.specs.declared.interface.Interface.{Interface}
-use Rattle.description_types.specs.declared.component.Component.{Component}
-use Rattle.description_types.specs.declared.component.Port.{Port}
-use Rattle.description_types.specs.declared.description.Description.{Description}
-use Rattle.description_types.specs.declared.flat.Flat.{Flat}
-use Rattle.description_types.specs.declared.flat.Instance.{Instance}
-use Rattle.description_types.specs.Members.{Among}
+use Rattle.plan_definitions.specs.Common.{Interface, Component, Port, Description, Flat, Instance, Among, positions, from, component_of, kind_at, count_at, site, sites_with, sites_at}
+use Rattle.plan_definitions.specs.Common.{sites_of_ports, variables_of, sites_of_component, sites_of_instance, root_ports, sites, ports_of}
 use Rattle.plan_definitions.specs.declared.site.Site.{Site}
 use Rattle.plan_definitions.specs.declared.site.SiteKind.{SiteKind}
 use Rattle.plan_definitions.specs.declared.site.SiteKind.TheVariants.{Variable}
-use Rattle.plan_definitions.specs.Lists.{positions, from}
-use Rattle.plan_definitions.specs.Parts.{component_of}
-use Rattle.plan_definitions.specs.Sites.{kind_at, count_at, site, sites_with, sites_at, sites_of_ports, variables_of, sites_of_component, sites_of_instance, root_ports, sites}
-use Rattle.plan_definitions.specs.Ports.{ports_of}
 use Rattle.plan_definitions.proofs.Lists.{cases, left, right}
 use Rattle.sound_plans.proofs.Lists.{mapped, map_has, pieces, in_pieces, position_in, in_positions}
 

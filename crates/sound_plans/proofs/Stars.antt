@@ -1,8 +1,7 @@
 -- Groups that are stars: each end is the only partner of its partners, or has one partner alone. Who is at most two steps apart is
 -- in one group, and the least number of a group is seen from each of its ends in two steps.
 use Rattle.std.proofs.Common.{◌≡◌, ℕ, ◌≤◌, List, [], ◌∷◌, map, min, ◌⊎◌, inl, inr, ⊎_elim, refl, sym, subst, ◌∙◌, arith}
-use Rattle.description_types.specs.Members.{Among}
-use Rattle.plan_definitions.specs.ElementGroups.{least}
+use Rattle.plan_definitions.specs.Common.{Among, least}
 use Rattle.plan_definitions.proofs.Lists.{mapped, unmapped}
 
 -- ---- the least number

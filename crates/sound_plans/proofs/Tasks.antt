@@ -1,33 +1,16 @@
 -- The tasks of the mapping fit the plan: what is mapped is there, as often as it is owed, and a runnable's events are in one task.
-use Rattle.std.proofs.Common.{◌≡◌, ℕ, zero, suc, ◌+◌, ◌<◌, ◌≤◌, Bool, true, false, cond, nat_eq, bytes_eq, refl, sym, ◌∙◌, ap, subst, arith, List, [], ◌∷◌, filter, length, Option, Some, None, option_map, option_and_then}
-use Rattle.std.specs.List.{slice_get, position_from, list_any}
-use Rattle.std.specs.Option.{option_map_or}
-use Rattle.std.proofs.lemmas.Bool.{eqb-true, eq-eqb, and_parts, ltb-true}
-use Rattle.std.proofs.lemmas.Option.{same_Some, slice_get_within}
-use Rattle.rte_value.specs.Values.{same_number}
-use Rattle.description_types.specs.declared.component.Component.{Component}
-use Rattle.description_types.specs.declared.component.Event.{Event}
-use Rattle.description_types.specs.declared.description.Description.{Description}
-use Rattle.description_types.specs.declared.description.MappedEvent.{MappedEvent}
+use Rattle.std.proofs.Common.{◌≡◌, ℕ, zero, suc, ◌+◌, ◌<◌, ◌≤◌, Bool, true, false, cond, nat_eq, bytes_eq, refl, sym, ◌∙◌, ap, subst, arith, List, [], ◌∷◌, filter, length, Option, Some}
+use Rattle.std.proofs.Common.{None, option_map, option_and_then}
+use Rattle.bus_semantics.specs.Common.{slice_get, position_from, list_any, option_map_or, eqb-true, eq-eqb, and_parts, ltb-true, same_Some, slice_get_within, same_number, look}
+use Rattle.bus_semantics.specs.Common.{runnable_of_event}
+use Rattle.plan_definitions.specs.Common.{Component, Event, Description, MappedEvent, Flat, instance_named, event_named, named_by, names, mapped_as, tasks_of_event, tasks_from, by_position}
+use Rattle.plan_definitions.specs.Common.{number_of, events_in, task_at, mapping_of, same_pair, pair_number, from, component_of, events_of, runnables_of, event_of, events, runnables}
+use Rattle.plan_definitions.specs.Common.{IsWhole}
 use Rattle.description_types.specs.declared.description.Task as declared_task
-use Rattle.description_types.specs.declared.flat.Flat.{Flat}
-use Rattle.bus_semantics.specs.declared.plan.BusPlan.{BusPlan}
-use Rattle.bus_semantics.specs.declared.plan.ElemPlan.{ElemPlan}
-use Rattle.bus_semantics.specs.declared.plan.EventPlan.{EventPlan}
-use Rattle.bus_semantics.specs.declared.script.Mapping.{Mapping}
-use Rattle.bus_semantics.specs.declared.script.Task.{Task}
+use Rattle.bus_laws.specs.Common.{BusPlan, ElemPlan, EventPlan, Mapping, Task}
 use Rattle.bus_semantics.specs.Plan as plan
-use Rattle.bus_semantics.specs.Plan.{look, runnable_of_event}
 use Rattle.bus_semantics.specs.Sound as sound
-use Rattle.plan_definitions.specs.Mapped.{instance_named, event_named, named_by, names, mapped_as}
-use Rattle.plan_definitions.specs.MappingRules.{tasks_of_event, tasks_from}
 use Rattle.plan_definitions.specs.MappingRules as mapped_rules
-use Rattle.plan_definitions.specs.Tasks.{by_position, number_of, events_in, task_at, mapping_of}
-use Rattle.plan_definitions.specs.Keys.{same_pair, pair_number}
-use Rattle.plan_definitions.specs.Lists.{from}
-use Rattle.plan_definitions.specs.Parts.{component_of, events_of, runnables_of}
-use Rattle.plan_definitions.specs.Started.{event_of, events, runnables}
-use Rattle.plan_definitions.specs.Whole.{IsWhole}
 use Rattle.bus_laws.proofs.Thinning.{option_same}
 use Rattle.sound_plans.proofs.Places.{not_some, any_at, position_at, looked}
 use Rattle.sound_plans.proofs.Members.{Has, has_flat, has_map, has_kept, kept_has, order_has, has_first, has_last, tasks_one, gathered_few}

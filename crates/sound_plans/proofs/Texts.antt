@@ -1,8 +1,6 @@
 -- Names, and texts in parts.
 use Rattle.std.proofs.Common.{◌≡◌, ℕ, List, [], ◌∷◌, ◌++◌, length, true, false, ◌&&◌, nat_eq, refl, sym, ap, ◌∙◌, codes, append_assoc, true≢false}
-use Rattle.std.proofs.lemmas.Bool.{eq-eqb, ne_eqb, and_parts, and_from, or_left}
-use Rattle.std.specs.List.{list_all}
-use Rattle.bus_semantics.specs.SoundNames.{is_letter, is_name_part, is_name, parts, is_pair_name}
+use Rattle.bus_semantics.specs.Common.{eq-eqb, ne_eqb, and_parts, and_from, or_left, list_all, is_letter, is_name_part, is_name, parts, is_pair_name}
 
 -- ---- the same texts
 

@@ -1,16 +1,9 @@
 -- The sites of servers, machines and required mode elements.
 use Rattle.std.proofs.Common.{◌≡◌, Bool, true, false, Some, ⊎_elim, sym, ap, ◌∙◌}
 use Rattle.std.specs.Option.{unwrap_or}
-use Rattle.description_types.specs.declared.description.Description.{Description}
-use Rattle.description_types.specs.declared.flat.Flat.{Flat}
-use Rattle.description_types.specs.Members.{Among}
+use Rattle.plan_definitions.specs.Common.{Description, Flat, Among, is_machine, is_mode_port, is_server, of_kind, sites, item_text, has_machine, machines_of, mode_ports_of, servers_of}
+use Rattle.plan_definitions.specs.Common.{machine_at, mode_port_at, server_of}
 use Rattle.plan_definitions.specs.declared.site.Site.{Site}
-use Rattle.plan_definitions.specs.Keys.{is_machine, is_mode_port, is_server, of_kind}
-use Rattle.plan_definitions.specs.Sites.{sites}
-use Rattle.plan_definitions.specs.Ports.{item_text}
-use Rattle.plan_definitions.specs.Things.{has_machine, machines_of, mode_ports_of, servers_of}
-use Rattle.plan_definitions.specs.Modes.{machine_at, mode_port_at}
-use Rattle.plan_definitions.specs.Services.{server_of}
 use Rattle.sound_plans.proofs.Lists.{filtered}
 use Rattle.sound_plans.proofs.SiteKinds.{IsModes, IsServer, machine_is, mode_port_is, server_is}
 use Rattle.sound_plans.proofs.Sites.{ItemAt, VariableAt, site_is}

@@ -1,35 +1,16 @@
 -- The data elements of one port stand side by side: a plan lists them port by port.
-use Rattle.std.proofs.Common.{◌≡◌, ℕ, suc, ◌+◌, ◌<◌, List, [], ◌∷◌, ◌++◌, map, filter, length, slice_get, Bool, true, false, cond, not, ◌||◌, nat_eq, Option, Some, None, is_none, inl, inr, refl, sym, ap, subst, ◌∙◌, arith}
-use Rattle.std.proofs.lemmas.Bool.{and_parts, and_from, eq-eqb, false_from_ne_true, or_left, or_right}
-use Rattle.std.proofs.lemmas.List.{map-append}
-use Rattle.std.proofs.lemmas.List.Elements.{filter-append}
-use Rattle.std.proofs.lemmas.List.Folds.{list_any-append}
-use Rattle.std.proofs.lemmas.Option.{slice_get_within}
-use Rattle.std.proofs.Math.Bool.{or-false}
+use Rattle.std.proofs.Common.{◌≡◌, ℕ, suc, ◌+◌, ◌<◌, List, [], ◌∷◌, ◌++◌, map, filter, length, slice_get, Bool, true, false, cond, not, ◌||◌, nat_eq, Option, Some, None, is_none, inl, inr}
+use Rattle.std.proofs.Common.{refl, sym, ap, subst, ◌∙◌, arith}
+use Rattle.bus_semantics.specs.Common.{and_parts, and_from, eq-eqb, false_from_ne_true, or_left, or_right, map-append, filter-append, list_any-append, slice_get_within, or-false, list_any}
+use Rattle.bus_semantics.specs.Common.{option_map_or, Named, is_together, port_of, ports_together, same_named, is_variable, rank, same_numbers}
 use mathlib.Core.List.{map-map}
-use Rattle.std.specs.List.{list_any}
-use Rattle.std.specs.Option.{option_map_or}
-use Rattle.description_types.specs.declared.component.Component.{Component}
-use Rattle.description_types.specs.declared.component.Port.{Port}
-use Rattle.description_types.specs.declared.description.Description.{Description}
-use Rattle.description_types.specs.declared.flat.Flat.{Flat}
-use Rattle.description_types.specs.declared.flat.Instance.{Instance}
-use Rattle.description_types.specs.Members.{Among}
-use Rattle.bus_semantics.specs.declared.plan.BusPlan.{BusPlan}
-use Rattle.bus_semantics.specs.declared.plan.ElemPlan.{ElemPlan}
+use Rattle.plan_definitions.specs.Common.{Component, Port, Description, Flat, Instance, Among, is_element, from, positions, root_ports, site, sites, sites_at, sites_of_component}
+use Rattle.plan_definitions.specs.Common.{sites_of_instance, sites_of_ports, variables_of, Elem, elem_seen, element_of, group_of, ports_of, site_name, elements_of, plan_of, seen}
+use Rattle.plan_definitions.specs.Common.{IsWellFormed}
+use Rattle.bus_laws.specs.Common.{BusPlan, ElemPlan}
 use Rattle.bus_semantics.specs.Plan as bus
-use Rattle.bus_semantics.specs.SoundNames.{Named, is_together, port_of, ports_together, same_named}
-use Rattle.bus_semantics.specs.SoundPlan.{is_variable, rank, same_numbers}
 use Rattle.plan_definitions.specs.declared.site.Site.{Site}
 use Rattle.plan_definitions.specs.declared.site.SiteKind.TheVariants.{Variable}
-use Rattle.plan_definitions.specs.Keys.{is_element}
-use Rattle.plan_definitions.specs.Lists.{from, positions}
-use Rattle.plan_definitions.specs.Sites.{root_ports, site, sites, sites_at, sites_of_component, sites_of_instance, sites_of_ports, variables_of}
-use Rattle.plan_definitions.specs.Elements.{Elem, elem_seen, element_of, group_of}
-use Rattle.plan_definitions.specs.Ports.{ports_of, site_name}
-use Rattle.plan_definitions.specs.Things.{elements_of}
-use Rattle.plan_definitions.specs.Planned.{plan_of, seen}
-use Rattle.plan_definitions.specs.WellFormed.{IsWellFormed}
 use Rattle.plan_definitions.proofs.Lists.{same_numbers_refl}
 use Rattle.sound_plans.proofs.Apart.{named_is}
 use Rattle.sound_plans.proofs.ItemNames.{item_site_name}

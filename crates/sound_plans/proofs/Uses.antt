@@ -1,66 +1,28 @@
 -- Accesses are sound: what each names is there, of the runnable's instance, and takes its words.
 use Rattle.std.proofs.Common.{◌≡◌, ℕ, Bool, true, false, cond, ◌&&◌, ◌||◌, not, ◌==◌, refl, sym, ◌∙◌, ap, arith, List, [], map, length, Option, Some, None, option_map, option_and_then}
-use Rattle.std.proofs.lemmas.Bool.{and_from, and_parts, eq-eqb, eqb-true, leb-true, lt-ltb, ltb-true}
+use Rattle.bus_semantics.specs.Common.{and_from, and_parts, eq-eqb, eqb-true, leb-true, lt-ltb, ltb-true, slice_get, list_all, option_map_or, Limits, same_number, AccessKind, is_queued}
+use Rattle.bus_semantics.specs.Common.{is_unqueued, modes_of, elem_fits, result_point, switch_fits, mode_port_fits, point_takes, mode_count, access_sound, same_limits, is_in, is_variable}
 use Rattle.std.specs.Prelude.{nat_lt, nat_le, replicate}
-use Rattle.std.specs.List.{slice_get, list_all}
-use Rattle.std.specs.Option.{option_map_or}
-use Rattle.rte_value.specs.declared.kinds.Limits.{Limits}
-use Rattle.rte_value.specs.Values.{same_number}
-use Rattle.runnable_lang.specs.declared.program.AccessKind.{AccessKind}
 use Rattle.runnable_lang.specs.declared.program.AccessKind.TheVariants as kind
-use Rattle.description_types.specs.declared.base_type.DataType.{DataType}
-use Rattle.description_types.specs.declared.interface.DataElement.{DataElement}
-use Rattle.description_types.specs.declared.interface.Direction.{Direction}
-use Rattle.description_types.specs.declared.interface.Direction.TheVariants.{In, Out}
-use Rattle.description_types.specs.declared.interface.Interface.{Interface}
-use Rattle.description_types.specs.declared.interface.ModeGroup.{ModeGroup}
+use Rattle.plan_definitions.specs.Common.{DataType, DataElement, Direction, In, Out, Interface, ModeGroup, SwImplPolicy, Standard, Queued, Access, Component, Port, PortKind, Provided}
+use Rattle.plan_definitions.specs.Common.{Required, Variable, Description, Flat, item_at, arguments_of, words_of_item, words_of_variable, access_sig, area_of, areas, elem_seen, elements}
+use Rattle.plan_definitions.specs.Common.{policy_kind, pair_number, areas_of, runnables_of, provides_at, site, element_number, machine_for, machine_number, mode_port_number, target_of}
+use Rattle.plan_definitions.specs.Common.{owner_of, is_calling, leaves, point_number, machine_at, machines, mode_port_at, mode_ports, point_of, point_words, points, IsWhole}
 use Rattle.description_types.specs.declared.interface.Operation as declared_operation
-use Rattle.description_types.specs.declared.interface.SwImplPolicy.{SwImplPolicy}
-use Rattle.description_types.specs.declared.interface.SwImplPolicy.TheVariants.{Standard, Queued}
-use Rattle.description_types.specs.declared.component.Access.{Access}
-use Rattle.description_types.specs.declared.component.Component.{Component}
-use Rattle.description_types.specs.declared.component.Port.{Port}
-use Rattle.description_types.specs.declared.component.PortKind.{PortKind}
-use Rattle.description_types.specs.declared.component.PortKind.TheVariants.{Provided, Required}
 use Rattle.description_types.specs.declared.component.Runnable as declared_runnable
-use Rattle.description_types.specs.declared.component.Variable.{Variable}
-use Rattle.description_types.specs.declared.description.Description.{Description}
-use Rattle.description_types.specs.declared.flat.Flat.{Flat}
-use Rattle.bus_semantics.specs.declared.plan.AreaPlan.{AreaPlan}
-use Rattle.bus_semantics.specs.declared.plan.BusPlan.{BusPlan}
-use Rattle.bus_semantics.specs.declared.plan.ElemKind.{ElemKind}
+use Rattle.bus_laws.specs.Common.{AreaPlan, BusPlan, ElemKind, ElemPlan, MachinePlan, ModePortPlan, PointPlan, Mapping}
 use Rattle.bus_semantics.specs.declared.plan.ElemKind.TheVariants as elem
-use Rattle.bus_semantics.specs.declared.plan.ElemPlan.{ElemPlan}
-use Rattle.bus_semantics.specs.declared.plan.MachinePlan.{MachinePlan}
-use Rattle.bus_semantics.specs.declared.plan.ModePortPlan.{ModePortPlan}
-use Rattle.bus_semantics.specs.declared.plan.PointPlan.{PointPlan}
-use Rattle.bus_semantics.specs.declared.script.Mapping.{Mapping}
-use Rattle.bus_semantics.specs.Owners.{is_queued, is_unqueued, modes_of, elem_fits, result_point, switch_fits, mode_port_fits}
-use Rattle.bus_semantics.specs.SoundAccesses.{takes_words, point_takes, mode_count, access_sound}
-use Rattle.bus_semantics.specs.SoundElements.{same_limits}
-use Rattle.bus_semantics.specs.SoundPlan.{is_in, is_variable}
+use Rattle.bus_semantics.specs.SoundAccesses.{takes_words}
 use Rattle.plan_definitions.specs.declared.item.Item.{Item}
 use Rattle.plan_definitions.specs.declared.item.Item.TheVariants.{Data, Operation, Modes}
 use Rattle.plan_definitions.specs.Accesses as reaches
-use Rattle.plan_definitions.specs.Items.{item_at}
-use Rattle.plan_definitions.specs.Signatures.{arguments_of, words_of, words_of_item, words_at, words_of_variable, access_sig}
+use Rattle.plan_definitions.specs.Signatures.{words_of, words_at}
 use Rattle.plan_definitions.specs.Signatures as signatures
-use Rattle.plan_definitions.specs.Planned.{area_of, areas}
-use Rattle.plan_definitions.specs.Elements.{elem_seen, elements, policy_kind}
 use Rattle.plan_definitions.specs.Elements as seen
 use Rattle.plan_definitions.specs.declared.site.Site.{Site}
 use Rattle.plan_definitions.specs.declared.site.SiteKind.TheVariants as site_kind
-use Rattle.plan_definitions.specs.Keys.{pair_number}
-use Rattle.plan_definitions.specs.Parts.{areas_of, runnables_of}
-use Rattle.plan_definitions.specs.Sites.{provides_at, site}
-use Rattle.plan_definitions.specs.Things.{element_number, machine_for, machine_number, mode_port_number}
-use Rattle.plan_definitions.specs.Started.{target_of}
 use Rattle.plan_definitions.specs.declared.calling.Calling.{Calling}
-use Rattle.plan_definitions.specs.Callings.{owner_of, is_calling, leaves, point_number}
-use Rattle.plan_definitions.specs.Modes.{machine_at, machines, mode_port_at, mode_ports}
-use Rattle.plan_definitions.specs.Services.{point_of, point_words, points}
 use Rattle.plan_definitions.specs.WellFormed as formed
-use Rattle.plan_definitions.specs.Whole.{IsWhole}
 use Rattle.plan_definitions.proofs.Lists.{there as there_at}
 use Rattle.bus_laws.proofs.Thinning.{option_test}
 use Rattle.sound_plans.proofs.Places.{looked, all_at}

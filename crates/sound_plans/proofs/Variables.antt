@@ -1,17 +1,10 @@
 -- Variables among the elements.
 use Rattle.std.proofs.Common.{◌≡◌, ℕ, Bool, true, false, Option, Some, None, is_none, refl}
-use Rattle.std.specs.Option.{option_map_or}
-use Rattle.description_types.specs.declared.interface.DataElement.{DataElement}
-use Rattle.description_types.specs.declared.interface.SwImplPolicy.{SwImplPolicy}
-use Rattle.description_types.specs.declared.interface.SwImplPolicy.TheVariants.{Standard, Queued}
-use Rattle.description_types.specs.declared.description.Description.{Description}
-use Rattle.description_types.specs.declared.flat.Flat.{Flat}
-use Rattle.bus_semantics.specs.declared.plan.ElemKind.{ElemKind}
+use Rattle.bus_semantics.specs.Common.{option_map_or, is_variable}
+use Rattle.plan_definitions.specs.Common.{DataElement, SwImplPolicy, Standard, Queued, Description, Flat, declared_at, kind_of, policy_kind}
+use Rattle.bus_laws.specs.Common.{ElemKind, ElemPlan}
 use Rattle.bus_semantics.specs.declared.plan.ElemKind.TheVariants as kind
-use Rattle.bus_semantics.specs.declared.plan.ElemPlan.{ElemPlan}
-use Rattle.bus_semantics.specs.SoundPlan.{is_variable}
 use Rattle.plan_definitions.specs.declared.site.Site.{Site}
-use Rattle.plan_definitions.specs.Elements.{declared_at, kind_of, policy_kind}
 
 -- the kind of an element tells whether it is a variable
 abbrev pub variable_kind : ElemKind → Bool

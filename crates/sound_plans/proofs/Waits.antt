@@ -1,45 +1,19 @@
 -- The tasks have an order along waiting calls: a wait in the plan is one in the description, whose tasks have one.
-use Rattle.std.proofs.Common.{◌≡◌, ℕ, zero, suc, ◌+◌, Bool, true, false, cond, ◌&&◌, not, ◌==◌, nat_eq, refl, sym, ◌∙◌, ap, subst, arith, List, [], ◌∷◌, length, Option, Some, None, option_map, option_and_then, ◌⊎◌, inl, inr}
+use Rattle.std.proofs.Common.{◌≡◌, ℕ, zero, suc, ◌+◌, Bool, true, false, cond, ◌&&◌, not, ◌==◌, nat_eq, refl, sym, ◌∙◌, ap, subst, arith, List, [], ◌∷◌, length, Option, Some, None}
+use Rattle.std.proofs.Common.{option_map, option_and_then, ◌⊎◌, inl, inr}
 use Rattle.std.specs.Prelude.{is_some}
-use Rattle.std.specs.List.{slice_get, list_any, flat_map}
-use Rattle.std.specs.Option.{option_map_or}
-use Rattle.std.proofs.lemmas.Bool.{false≢true, eqb-true, eq-eqb, and_parts, not-true}
-use Rattle.std.proofs.lemmas.Map.Keys.{any_passes_from_place}
-use Rattle.std.proofs.lemmas.Option.{same_Some}
-use Rattle.rte_value.specs.Values.{same_number}
-use Rattle.runnable_lang.specs.declared.program.AccessKind.{AccessKind}
+use Rattle.bus_semantics.specs.Common.{slice_get, list_any, flat_map, option_map_or, false≢true, eqb-true, eq-eqb, and_parts, not-true, any_passes_from_place, same_Some, same_number}
+use Rattle.bus_semantics.specs.Common.{AccessKind, Plan, Runnable, plan_of, look, positions, runnable_of_event}
 use Rattle.runnable_lang.specs.declared.program.AccessKind.TheVariants as kind
-use Rattle.description_types.specs.declared.interface.Interface.{Interface}
-use Rattle.description_types.specs.declared.interface.InterfaceKind.TheVariants.{ClientServer}
-use Rattle.description_types.specs.declared.component.Component.{Component}
-use Rattle.description_types.specs.declared.component.Event.{Event}
+use Rattle.plan_definitions.specs.Common.{Interface, ClientServer, Component, Event, Description, End, Flat, item_at, tasks_of_event, tasks_from, task_of_server, tasks_behind, waits_by}
+use Rattle.plan_definitions.specs.Common.{waits_for, Waits, mapping_of, end_at, provider_of, end_key, pair_number, runnables_of, interface_of, server_number, runnable_of, callings, point_of}
+use Rattle.plan_definitions.specs.Common.{points, server_at, servers, IsWhole}
 use Rattle.description_types.specs.declared.component.Runnable as declared_runnable
-use Rattle.description_types.specs.declared.description.Description.{Description}
-use Rattle.description_types.specs.declared.flat.End.{End}
-use Rattle.description_types.specs.declared.flat.Flat.{Flat}
-use Rattle.bus_semantics.specs.declared.plan.BusPlan.{BusPlan}
-use Rattle.bus_semantics.specs.declared.plan.ElemPlan.{ElemPlan}
-use Rattle.bus_semantics.specs.declared.plan.PointPlan.{PointPlan}
-use Rattle.bus_semantics.specs.declared.plan.ServerPlan.{ServerPlan}
-use Rattle.bus_semantics.specs.declared.script.Mapping.{Mapping}
-use Rattle.bus_semantics.specs.declared.script.Task.{Task}
-use Rattle.bus_semantics.specs.Plan.{Plan, Runnable, plan_of, look, positions, runnable_of_event}
+use Rattle.bus_laws.specs.Common.{BusPlan, ElemPlan, PointPlan, ServerPlan, Mapping, Task}
 use Rattle.bus_semantics.specs.Sound as sound
 use Rattle.plan_definitions.specs.declared.item.Item.TheVariants.{Operation}
-use Rattle.plan_definitions.specs.Items.{item_at}
-use Rattle.plan_definitions.specs.MappingRules.{tasks_of_event, tasks_from, task_of_server, tasks_behind, waits_by, waits_for, Waits}
 use Rattle.plan_definitions.specs.MappingRules as mapped_rules
-use Rattle.plan_definitions.specs.Tasks.{mapping_of}
-use Rattle.plan_definitions.specs.Joined.{end_at, provider_of}
-use Rattle.plan_definitions.specs.Keys.{end_key, pair_number}
-use Rattle.plan_definitions.specs.Parts.{runnables_of}
-use Rattle.plan_definitions.specs.Ports.{interface_of}
-use Rattle.plan_definitions.specs.Things.{server_number}
-use Rattle.plan_definitions.specs.Started.{runnable_of}
 use Rattle.plan_definitions.specs.declared.calling.Calling.{Calling}
-use Rattle.plan_definitions.specs.Callings.{callings}
-use Rattle.plan_definitions.specs.Services.{point_of, points, server_at, servers}
-use Rattle.plan_definitions.specs.Whole.{IsWhole}
 use Rattle.sound_plans.proofs.Places.{any_at, looked, map_at, append_at, Later}
 use Rattle.sound_plans.proofs.Members.{Has, has_either, has_gathered, to_flat}
 use Rattle.sound_plans.proofs.Parts.{Home, home_component, RunnableAt}

@@ -1,15 +1,9 @@
 -- What joins connect (SWS_RTE: sender-receiver communication 1:n and n:1).
 use Rattle.std.specs.Prelude.{◌≡◌, ℕ, zero, suc, List, Option, Some, option_map, slice_get, ◌⊎◌, ◌↔◌}
-use Rattle.description_types.specs.declared.description.Description.{Description}
-use Rattle.description_types.specs.declared.flat.End.{End}
-use Rattle.description_types.specs.declared.flat.Flat.{Flat}
-use Rattle.description_types.specs.declared.flat.Join.{Join}
+use Rattle.plan_definitions.specs.Common.{Description, End, Flat, Join, end_of, elements_of}
 use Rattle.plan_definitions.specs.JoinGroups.{IsJoined}
-use Rattle.bus_semantics.specs.declared.plan.BusPlan.{BusPlan}
-use Rattle.bus_semantics.specs.declared.plan.ElemPlan.{ElemPlan}
+use Rattle.bus_laws.specs.Common.{BusPlan, ElemPlan}
 use Rattle.plan_definitions.specs.declared.site.Site.{Site}
-use Rattle.plan_definitions.specs.Joined.{end_of}
-use Rattle.plan_definitions.specs.Things.{elements_of}
 
 -- a join connects the two ends, whichever of them provides
 abbrev pub AreJoined : List Join → End → End → Type 0

@@ -1,19 +1,10 @@
 //! Laws of sound plans, each a field of `IsSound`.
 
 ghost use Rattle.std.specs.Prelude.{◌≡◌, true, ◌&&◌, length, map, nat_le};
-ghost use Rattle.description_types.specs.declared.description.Description.{Description};
-ghost use Rattle.description_types.specs.declared.flat.Flat.{Flat};
-ghost use Rattle.bus_semantics.specs.declared.plan.BusPlan.{BusPlan};
-ghost use Rattle.bus_semantics.specs.declared.plan.PointPlan.{PointPlan};
-ghost use Rattle.bus_semantics.specs.declared.script.Mapping.{Mapping};
-ghost use Rattle.bus_semantics.specs.Plan.{plan_of, every_from};
-ghost use Rattle.bus_semantics.specs.Sound.{WaitOrder, mapping_fits};
-ghost use Rattle.bus_semantics.specs.SoundAccesses.{points_arranged, points_fit};
-ghost use Rattle.bus_semantics.specs.SoundLists.{lists_sound};
-ghost use Rattle.bus_semantics.specs.SoundNames.{caller_rank, named_once};
-ghost use Rattle.bus_semantics.specs.SoundPrograms.{runnable_sound};
-ghost use Rattle.bus_semantics.specs.SoundEvents.{direct_sound, event_sound, server_served, serves_back};
-ghost use Rattle.plan_definitions.specs.Whole.{IsWhole};
+ghost use Rattle.plan_definitions.specs.Common.{Description, Flat, IsWhole};
+ghost use Rattle.bus_laws.specs.Common.{BusPlan, PointPlan, Mapping};
+ghost use Rattle.bus_semantics.specs.Common.{plan_of, every_from, WaitOrder, mapping_fits, points_arranged, points_fit, lists_sound, caller_rank, named_once, runnable_sound, direct_sound};
+ghost use Rattle.bus_semantics.specs.Common.{event_sound, server_served, serves_back};
 
 use bus_laws::accepted_programs_are_sound;
 

@@ -1,13 +1,9 @@
 //! Laws of the bundles that coherent lists make of groups.
 
 ghost use Rattle.std.specs.Prelude.{◌≡◌, true};
-ghost use Rattle.description_types.specs.declared.description.Description.{Description};
-ghost use Rattle.description_types.specs.declared.flat.Flat.{Flat};
-ghost use Rattle.bus_semantics.specs.declared.plan.BusPlan.{BusPlan};
-ghost use Rattle.bus_semantics.specs.declared.script.Mapping.{Mapping};
-ghost use Rattle.bus_semantics.specs.Plan.{plan_of};
-ghost use Rattle.bus_semantics.specs.SoundLists.{bundles_fit};
-ghost use Rattle.plan_definitions.specs.Whole.{IsWhole};
+ghost use Rattle.plan_definitions.specs.Common.{Description, Flat, IsWhole};
+ghost use Rattle.bus_laws.specs.Common.{BusPlan, Mapping};
+ghost use Rattle.bus_semantics.specs.Common.{plan_of, bundles_fit};
 
 /// Each bundle lists exactly the groups that lists connect, at least one, in rising order, and the bundles stand in order of their
 /// first groups.

@@ -1,15 +1,9 @@
 //! Laws of the data elements of plans and of their groups.
 
 ghost use Rattle.std.specs.Prelude.{◌≡◌, true};
-ghost use Rattle.std.specs.List.{list_all};
-ghost use Rattle.description_types.specs.declared.description.Description.{Description};
-ghost use Rattle.description_types.specs.declared.flat.Flat.{Flat};
-ghost use Rattle.bus_semantics.specs.declared.plan.BusPlan.{BusPlan};
-ghost use Rattle.bus_semantics.specs.declared.script.Mapping.{Mapping};
-ghost use Rattle.bus_semantics.specs.Plan.{plan_of};
-ghost use Rattle.bus_semantics.specs.SoundPlan.{groups_fit};
-ghost use Rattle.bus_semantics.specs.SoundElements.{elem_sound, joins_fit};
-ghost use Rattle.plan_definitions.specs.Whole.{IsWhole};
+ghost use Rattle.bus_semantics.specs.Common.{list_all, plan_of, groups_fit, elem_sound, joins_fit};
+ghost use Rattle.plan_definitions.specs.Common.{Description, Flat, IsWhole};
+ghost use Rattle.bus_laws.specs.Common.{BusPlan, Mapping};
 ghost use Rattle.sound_plans.specs.Connected.{GroupsAreConnected};
 
 /// A data element has 1 to 16 words within limits that a base type holds, its initial words fit, its queue has room for 1 to

@@ -1,21 +1,9 @@
 //! Laws of the plan of a description that breaks no rule.
 
 ghost use Rattle.std.specs.Prelude.{◌≡◌, true, length, map, nat_lt};
-ghost use Rattle.std.specs.List.{list_all};
-ghost use Rattle.description_types.specs.declared.description.Description.{Description};
-ghost use Rattle.description_types.specs.declared.flat.Flat.{Flat};
-ghost use Rattle.bus_semantics.specs.declared.plan.AreaPlan.{AreaPlan};
-ghost use Rattle.bus_semantics.specs.declared.plan.BusPlan.{BusPlan};
-ghost use Rattle.bus_semantics.specs.declared.plan.ElemPlan.{ElemPlan};
-ghost use Rattle.bus_semantics.specs.declared.plan.EventPlan.{EventPlan};
-ghost use Rattle.bus_semantics.specs.declared.plan.MachinePlan.{MachinePlan};
-ghost use Rattle.bus_semantics.specs.declared.plan.ModePortPlan.{ModePortPlan};
-ghost use Rattle.bus_semantics.specs.declared.plan.ServerPlan.{ServerPlan};
-ghost use Rattle.bus_semantics.specs.declared.script.Mapping.{Mapping};
-ghost use Rattle.bus_semantics.specs.Plan.{Runnable, instance_of, plan_of};
-ghost use Rattle.bus_semantics.specs.SoundNames.{named_once, names_fit, none_is_env, ports_agree, ports_together};
-ghost use Rattle.bus_semantics.specs.SoundPlan.{instances_exist, is_arranged, rank};
-ghost use Rattle.plan_definitions.specs.Whole.{IsWhole};
+ghost use Rattle.bus_semantics.specs.Common.{list_all, Runnable, instance_of, plan_of, named_once, names_fit, none_is_env, ports_agree, ports_together, instances_exist, is_arranged, rank};
+ghost use Rattle.plan_definitions.specs.Common.{Description, Flat, IsWhole};
+ghost use Rattle.bus_laws.specs.Common.{AreaPlan, BusPlan, ElemPlan, EventPlan, MachinePlan, ModePortPlan, ServerPlan, Mapping};
 
 /// Each instance that the plan names is one of the plan's.
 pub fn plans_name_their_instances()

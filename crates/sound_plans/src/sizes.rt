@@ -1,16 +1,9 @@
 //! Laws of the objects, the queues and the mode machines of plans.
 
 ghost use Rattle.std.specs.Prelude.{◌≡◌, true, length, nat_le};
-ghost use Rattle.std.specs.List.{list_all};
-ghost use Rattle.description_types.specs.declared.description.Description.{Description};
-ghost use Rattle.description_types.specs.declared.flat.Flat.{Flat};
-ghost use Rattle.bus_semantics.specs.declared.plan.BusPlan.{BusPlan};
-ghost use Rattle.bus_semantics.specs.declared.script.Mapping.{Mapping};
-ghost use Rattle.bus_semantics.specs.Plan.{plan_of};
-ghost use Rattle.bus_semantics.specs.Sound.{queue_lengths};
-ghost use Rattle.bus_semantics.specs.SoundPlan.{objects_counted};
-ghost use Rattle.bus_semantics.specs.SoundElements.{machine_sound};
-ghost use Rattle.plan_definitions.specs.Whole.{IsWhole};
+ghost use Rattle.bus_semantics.specs.Common.{list_all, plan_of, queue_lengths, objects_counted, machine_sound};
+ghost use Rattle.plan_definitions.specs.Common.{Description, Flat, IsWhole};
+ghost use Rattle.bus_laws.specs.Common.{BusPlan, Mapping};
 
 /// The objects of a plan are its bundles, servers, areas and mode machines, and the clock; there are at most 16,384 of them, and as
 /// many of its groups, servers, areas and mode machines with the clock.

@@ -1,24 +1,18 @@
 -- A whole activation does what the activity does.
-use Rattle.std.proofs.Common.{◌≡◌, ℕ, zero, suc, ◌+◌, ◌*◌, ◌<◌, ◌≤◌, List, [], ◌∷◌, ◌++◌, length, Bool, true, false, if◌then◌else◌, Option, Some, None, refl, sym, ap, ◌∙◌, subst, arith, append_assoc, length-append}
+use Rattle.std.proofs.Common.{◌≡◌, ℕ, zero, suc, ◌+◌, ◌*◌, ◌<◌, ◌≤◌, List, [], ◌∷◌, ◌++◌, length, Bool, true, false, if◌then◌else◌, Option, Some, None, refl, sym, ap, ◌∙◌, subst, arith}
+use Rattle.std.proofs.Common.{append_assoc, length-append}
 use Rattle.std.specs.Prelude.{slice_get, ◌==◌, is_some}
 use Rattle.std.proofs.Math.Seq.{get_or-append_seam}
-use Rattle.std.proofs.lemmas.Option.{slice_get-get_or, slice_get_past}
+use Rattle.bus_semantics.specs.Common.{slice_get-get_or, slice_get_past, Plan, Runnable, disabling_of, to_admit, State, Outcome, Stop, Go, Running, goes_on, both, calling, takes_nothing}
+use Rattle.bus_semantics.specs.Common.{run_program, fetches_of, publications_of, admitting, fetching, returning, ending, wanted_next}
 use Rattle.bus_semantics.specs.declared.entries.Deed.{Deed}
 use Rattle.bus_semantics.specs.declared.plan.Disabling.{Disabling}
-use Rattle.bus_semantics.specs.Plan.{Plan, Runnable, disabling_of}
-use Rattle.bus_semantics.specs.Wanted.{to_admit}
-use Rattle.bus_semantics.specs.State.{State}
-use Rattle.bus_semantics.specs.Programs.{Outcome, Stop, Go, Running, goes_on, both, calling, takes_nothing, run_program}
-use Rattle.bus_semantics.specs.Activations.{fetches_of, publications_of, admitting, fetching, returning, ending, wanted_next}
 use Rattle.implicit_buffers.specs.Buffers.{fetched_by, published_by}
 use Rattle.task_machine.specs.declared.instr.Taken.TheVariants as taken
 use Rattle.task_machine.specs.Store.{Store}
 use Rattle.task_machine.specs.Instructions.{Instruction, change_of}
 use Rattle.task_machine.specs.Machine.{Spot, silently, settled, wanted_by, wanted_at, heard_by}
-use Rattle.task_generator.specs.Servers.{served}
-use Rattle.task_generator.specs.Code.{code_of_body, fetching_code, publishing_code, returning_code, ending_code, activity_code}
-use Rattle.task_generator.specs.Bounds.{steps_of_body, loops_of_body}
-use Rattle.task_generator.specs.Shapes.{budget_of}
+use Rattle.task_generator.specs.Common.{served, code_of_body, fetching_code, publishing_code, returning_code, ending_code, activity_code, steps_of_body, loops_of_body, budget_of}
 use Rattle.task_generator.proofs.Listed.{AreSlotted}
 use Rattle.task_generator.proofs.Cutting.{cutting, cut_activity}
 use Rattle.task_generator.proofs.Agreeing.{Slots, store_in}

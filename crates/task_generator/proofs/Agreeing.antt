@@ -1,9 +1,8 @@
 -- What lies in the slots of a frame is what stands under their elements.
 use Rattle.std.proofs.Common.{◌≡◌, ◌≢◌, ℕ, zero, suc, ◌<◌, ℤ, List, [], ◌∷◌, length, get_or, set, replicate, Bool, true, false, if◌then◌else◌, Option, Some, None, refl, sym, ap, ◌∙◌, subst, arith}
 use Rattle.std.specs.Prelude.{◌==◌}
-use Rattle.std.proofs.lemmas.Bool.{eqb-true, eqb-false}
-use Rattle.std.proofs.lemmas.List.{get_or-set_same, get_or-set_other, length-set, length-replicate}
-use Rattle.bus_semantics.specs.State.{State, found_under, words_under}
+use Rattle.bus_semantics.specs.Common.{eqb-true, get_or-set_same, get_or-set_other, length-set, length-replicate, State, found_under, words_under}
+use Rattle.std.proofs.lemmas.Bool.{eqb-false}
 use Rattle.task_machine.specs.Store.{Store}
 use Rattle.task_generator.specs.Slots.{slot_of}
 use Rattle.task_generator.proofs.Slots.{same_slot}

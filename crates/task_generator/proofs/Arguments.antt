@@ -1,14 +1,12 @@
 -- The variables at the start: the `in` arguments take the words of the start, and the others are 0.
-use Rattle.std.proofs.Common.{◌≡◌, ℕ, suc, ◌+◌, ◌-◌, max, ℤ, pos, List, [], ◌∷◌, ◌++◌, length, replicate, Bool, true, false, if◌then◌else◌, Option, Some, None, refl, sym, ap, ◌∙◌, arith, append_assoc, length-append}
+use Rattle.std.proofs.Common.{◌≡◌, ℕ, suc, ◌+◌, ◌-◌, max, ℤ, pos, List, [], ◌∷◌, ◌++◌, length, replicate, Bool, true, false, if◌then◌else◌, Option, Some, None, refl, sym, ap, ◌∙◌, arith}
+use Rattle.std.proofs.Common.{append_assoc, length-append}
 use Rattle.std.specs.Prelude.{slice_get}
-use Rattle.std.specs.Option.{option_map_or}
+use Rattle.bus_semantics.specs.Common.{option_map_or, Plan, Runnable, stored, arguments_at_start, arguments_of, variables_at_start}
 use Rattle.std.proofs.Math.Seq.{set-append_seam}
 use Rattle.std.proofs.lemmas.List.{replicate-append-replicate}
 use Rattle.bus_semantics.specs.declared.plan.ArgPlan.{ArgPlan}
 use Rattle.bus_semantics.specs.declared.plan.ServerPlan.{ServerPlan}
-use Rattle.bus_semantics.specs.Plan.{Plan, Runnable}
-use Rattle.bus_semantics.specs.State.{stored}
-use Rattle.bus_semantics.specs.Activations.{arguments_at_start, arguments_of, variables_at_start}
 use Rattle.task_generator.specs.Servers.{served, arguments_in, in_places}
 
 nothing_given : (args : List ArgPlan) → arguments_at_start args [] ≡ replicate (length args) (pos 0)

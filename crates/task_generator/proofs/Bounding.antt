@@ -1,12 +1,9 @@
 -- What is counted of a program, and whether it does nothing, one statement further.
 use Rattle.std.proofs.Common.{◌≡◌, ℕ, ◌+◌, ◌*◌, ◌<◌, min, max, arith, List, length, drop, get_or, refl}
-use Rattle.std.proofs.lemmas.List.{drop_more}
+use Rattle.bus_semantics.specs.Common.{drop_more, Stmt, stmt_tree, body_tree}
 use Rattle.runnable_lang.proofs.Capped.{capped_product}
-use Rattle.runnable_lang.specs.declared.stmt.Stmt.{Stmt}
-use Rattle.runnable_lang.specs.Trees.{stmt_tree, body_tree}
 use Rattle.std.specs.Prelude.{◌&&◌}
-use Rattle.task_generator.specs.Nothing.{does_nothing, do_nothing}
-use Rattle.task_generator.specs.Bounds.{steps, steps_of_body, loops, loops_of_body}
+use Rattle.task_generator.specs.Common.{does_nothing, do_nothing, steps, steps_of_body, loops, loops_of_body}
 
 pub steps_turn : (body : List Stmt) (i : ℕ) (d : Stmt) (total : ℕ) → i < length body
     → min (min (total + min (steps (stmt_tree (get_or body i d))) 18446744073709551615) 18446744073709551615 + steps_of_body (body_tree (drop (i + 1) body))) 18446744073709551615

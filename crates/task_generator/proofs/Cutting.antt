@@ -1,18 +1,11 @@
 -- A publication of a list that is cut at 16 words: an activation of a sound plan never has more.
 use Rattle.std.proofs.Common.{◌≡◌, ℕ, ◌≤◌, ℤ, Bool, true, false, if◌then◌else◌, refl, ap, arith, List, [], ◌∷◌, take, length, Some}
 use Rattle.std.specs.Prelude.{flat_map}
-use Rattle.std.specs.List.{list_any, slice_get}
-use Rattle.std.proofs.lemmas.Bool.{leb-true}
+use Rattle.bus_semantics.specs.Common.{list_any, slice_get, leb-true, Plan, Runnable, Wanted, to_publish_all, elems_of, mask_of, marked, words_of_all, State, words_under, Outcome, Stop, Go}
+use Rattle.bus_semantics.specs.Common.{Running, goes_on, both, nothing, calling, takes_nothing, run_program, Implicit, one, all_of, publications_of, each, publishing_one, is_written}
+use Rattle.bus_semantics.specs.Common.{publishing_it, publishing, admitting, fetching, returning, ending, activity, state_at_start, wanted_next, list_sound, IsSound}
 use Rattle.bus_semantics.specs.declared.entries.Deed.{Deed}
 use Rattle.bus_semantics.specs.declared.script.Mapping.{Mapping}
-use Rattle.bus_semantics.specs.Plan.{Plan, Runnable}
-use Rattle.bus_semantics.specs.Wanted.{Wanted, to_publish_all}
-use Rattle.bus_semantics.specs.Lists.{elems_of, mask_of, marked, words_of_all}
-use Rattle.bus_semantics.specs.State.{State, words_under}
-use Rattle.bus_semantics.specs.Programs.{Outcome, Stop, Go, Running, goes_on, both, nothing, calling, takes_nothing, run_program}
-use Rattle.bus_semantics.specs.Activations.{Implicit, one, all_of, publications_of, each, publishing_one, is_written, publishing_it, publishing, admitting, fetching, returning, ending, activity, state_at_start, wanted_next}
-use Rattle.bus_semantics.specs.SoundLists.{list_sound}
-use Rattle.bus_semantics.specs.Sound.{IsSound}
 use Rattle.history_laws.specs.Given.{limits_at, elems_take}
 use Rattle.history_laws.proofs.Trails.{Trail}
 use Rattle.history_laws.proofs.Runs.{reached}

@@ -2,23 +2,14 @@
 use Rattle.std.proofs.Common.{◌≡◌, ◌≤◌, ◌<◌, ℕ, zero, suc, ◌+◌, ◌*◌, Bool, true, false, if◌then◌else◌, refl, sym, subst, List, [], ◌∷◌, length, get_or, arith, length-append}
 use Rattle.std.specs.Prelude.{◌||◌, ◌==◌}
 use Rattle.std.proofs.lemmas.Nat.{mul-le}
-use Rattle.std.proofs.lemmas.Bool.{true≢false}
+use Rattle.bus_semantics.specs.Common.{true≢false, AccessSig, Stmt, ExprTree, stmt_tree, body_tree, StmtTree, chooses, repeats, in_area, BodyTree, done, next, stmt_cost, body_cost, Runnable}
+use Rattle.bus_semantics.specs.Common.{to_leave, access}
 use Rattle.runnable_lang.specs.declared.program.AccessKind.TheVariants as kind
-use Rattle.runnable_lang.specs.declared.program.AccessSig.{AccessSig}
-use Rattle.runnable_lang.specs.declared.stmt.Stmt.{Stmt}
-use Rattle.runnable_lang.specs.Trees.{ExprTree, stmt_tree, body_tree, StmtTree, chooses, repeats, in_area, BodyTree, done, next}
-use Rattle.runnable_lang.specs.Costs.{stmt_cost, body_cost}
-use Rattle.bus_semantics.specs.Plan.{Runnable}
-use Rattle.bus_semantics.specs.Wanted.{to_leave}
-use Rattle.bus_semantics.specs.State.{access}
 use Rattle.task_machine.specs.declared.instr.Taken.TheVariants as taken
 use Rattle.task_machine.specs.Targets.{number_at}
 use Rattle.task_machine.specs.Instructions.{Instruction, Shared, skip, end_loop}
-use Rattle.task_generator.specs.Nothing.{does_nothing, do_nothing}
-use Rattle.task_generator.specs.Numbers.{numbered}
-use Rattle.task_generator.specs.Code.{calling_code, looping_code, code_of, code_of_body}
-use Rattle.task_generator.specs.Shared.{fixed, calling_shared, looping_shared, shared_of, shared_of_body}
-use Rattle.task_generator.specs.Bounds.{steps, steps_of_body, loops, loops_of_body}
+use Rattle.task_generator.specs.Common.{does_nothing, do_nothing, numbered, calling_code, looping_code, code_of, code_of_body, fixed, calling_shared, looping_shared, shared_of}
+use Rattle.task_generator.specs.Common.{shared_of_body, steps, steps_of_body, loops, loops_of_body}
 
 -- ---- a loop that does something has a turn and a body
 

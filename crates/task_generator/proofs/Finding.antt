@@ -1,10 +1,7 @@
 -- Accesses that are noted under their keys, from the last one to the first.
 use Rattle.std.proofs.Common.{◌≡◌, ℕ, zero, suc, ◌<◌, Bool, true, false, cond, List, [], ◌∷◌, drop, length, get_or, min, Option, Some, refl, sym, ap, ◌∙◌, arith}
-use Rattle.runnable_lang.specs.declared.program.AccessKind.{AccessKind}
-use Rattle.runnable_lang.specs.declared.program.AccessSig.{AccessSig}
-use Rattle.runnable_lang.specs.Accesses.{kind_number}
+use Rattle.bus_semantics.specs.Common.{AccessKind, AccessSig, kind_number, is_to, found}
 use Rattle.task_generator.specs.declared.accesses.Numbered.{Numbered}
-use Rattle.bus_semantics.specs.State.{is_to, found}
 use Rattle.task_generator.specs.Found.{Key, same_key, numbered_of, access_in}
 
 no_target : (test : AccessSig → Bool) (xs : List AccessSig) → found test xs [] ≡ record { target = 0; ins = [] }

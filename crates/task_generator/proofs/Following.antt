@@ -1,16 +1,11 @@
 -- How the machine goes on from a place in a body, and how stretches of instructions are joined. A stretch does what an outcome of the
 -- program says where the slots agree with what the program's state has under their elements.
-use Rattle.std.proofs.Common.{◌≡◌, ◌≢◌, ℕ, zero, suc, ◌+◌, ◌-◌, ◌*◌, ◌<◌, ◌≤◌, ℤ, pos, List, [], ◌∷◌, length, set, get_or, Bool, true, false, if◌then◌else◌, Option, Some, None, refl, ap, ◌∙◌, subst, arith}
+use Rattle.std.proofs.Common.{◌≡◌, ◌≢◌, ℕ, zero, suc, ◌+◌, ◌-◌, ◌*◌, ◌<◌, ◌≤◌, ℤ, pos, List, [], ◌∷◌, length, set, get_or, Bool, true, false, if◌then◌else◌, Option, Some, None, refl, ap}
+use Rattle.std.proofs.Common.{◌∙◌, subst, arith}
 use Rattle.std.specs.Prelude.{slice_get, ◌==◌}
-use Rattle.std.specs.Ordering.{int_eq}
-use Rattle.std.proofs.lemmas.Bool.{eqb-true, false_from_ne_true}
-use Rattle.std.proofs.lemmas.List.{get_or-set_same, get_or-set_other, length-set}
-use Rattle.runnable_lang.specs.Trees.{ExprTree}
-use Rattle.runnable_lang.specs.Expressions.{worth}
+use Rattle.bus_semantics.specs.Common.{int_eq, eqb-true, false_from_ne_true, get_or-set_same, get_or-set_other, length-set, ExprTree, worth, Wanted, to_ask, to_hear, State, put, put_all}
+use Rattle.bus_semantics.specs.Common.{keep_written, words_under, code_in, Outcome, Stop, Go, Running, goes_on, nothing, calling, times, hears, asking_and_hearing, takes_words}
 use Rattle.bus_semantics.specs.declared.entries.Deed.{Deed}
-use Rattle.bus_semantics.specs.Wanted.{Wanted, to_ask, to_hear}
-use Rattle.bus_semantics.specs.State.{State, put, put_all, keep_written, words_under, code_in}
-use Rattle.bus_semantics.specs.Programs.{Outcome, Stop, Go, Running, goes_on, nothing, calling, times, hears, asking_and_hearing, takes_words}
 use Rattle.task_machine.specs.declared.instr.Taken.TheVariants as taken
 use Rattle.task_machine.specs.Store.{Store}
 use Rattle.task_machine.specs.Instructions.{Instruction, assign, load, keep, unless, skip, begin_loop, end_loop, call, refused, change_of, passes_of, passes_nothing}

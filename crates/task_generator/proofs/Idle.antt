@@ -1,14 +1,9 @@
 -- Statements that do nothing go on with the same state and the same answers.
 use Rattle.std.proofs.Common.{◌≡◌, ℕ, zero, suc, pos, List, Bool, true, false, if◌then◌else◌, refl, ap, ◌∙◌}
 use Rattle.std.specs.Prelude.{◌||◌, ◌==◌}
-use Rattle.std.specs.Ordering.{int_eq}
-use Rattle.std.proofs.lemmas.Bool.{and_parts, eqb-true, false≢true}
-use Rattle.runnable_lang.specs.Trees.{StmtTree, chooses, repeats, BodyTree, done, next}
-use Rattle.runnable_lang.specs.Expressions.{worth}
+use Rattle.bus_semantics.specs.Common.{int_eq, and_parts, eqb-true, false≢true, StmtTree, chooses, repeats, BodyTree, done, next, worth, Runnable, State, Go, Running, goes_on, times}
+use Rattle.bus_semantics.specs.Common.{running, running_body}
 use Rattle.bus_semantics.specs.declared.entries.Deed.{Deed}
-use Rattle.bus_semantics.specs.Plan.{Runnable}
-use Rattle.bus_semantics.specs.State.{State}
-use Rattle.bus_semantics.specs.Programs.{Go, Running, goes_on, times, running, running_body}
 use Rattle.task_generator.specs.Nothing.{does_nothing, do_nothing}
 
 -- a run that changes nothing

@@ -2,21 +2,11 @@
 -- has a slot.
 use Rattle.std.proofs.Common.{◌≡◌, ℕ, ◌<◌, ◌≤◌, Bool, true, false, ◌&&◌, ◌||◌, if◌then◌else◌, refl, sym, ap, ◌∙◌, subst, List, [], ◌∷◌, ◌++◌, length, Option, Some, None}
 use Rattle.std.specs.Prelude.{◌==◌, nat_le, not, option_to_list}
-use Rattle.std.specs.List.{list_all, list_any, slice_get}
-use Rattle.std.specs.Option.{option_map_or}
-use Rattle.std.proofs.lemmas.Bool.{and_parts, eqb-true, false≢true, leb-true}
-use Rattle.runnable_lang.specs.declared.program.AccessKind.{AccessKind}
-use Rattle.runnable_lang.specs.declared.program.AccessSig.{AccessSig}
+use Rattle.bus_semantics.specs.Common.{list_all, list_any, slice_get, option_map_or, and_parts, eqb-true, false≢true, leb-true, AccessKind, AccessSig, Plan, Runnable, elems_of, words_of_all}
+use Rattle.bus_semantics.specs.Common.{same_kind, Implicit, one, all_of, is_read_early, is_written_late, list_with, met_now, in_order, fetches_of, publications_of, is_in, accesses_elem}
+use Rattle.bus_semantics.specs.Common.{list_kind, access_sound, each_access, IsSound}
 use Rattle.bus_semantics.specs.declared.plan.CoherentList.{CoherentList}
 use Rattle.bus_semantics.specs.declared.script.Mapping.{Mapping}
-use Rattle.bus_semantics.specs.Plan.{Plan, Runnable}
-use Rattle.bus_semantics.specs.Lists.{elems_of, words_of_all}
-use Rattle.bus_semantics.specs.State.{same_kind}
-use Rattle.bus_semantics.specs.Activations.{Implicit, one, all_of, is_read_early, is_written_late, list_with, met_now, in_order, fetches_of, publications_of}
-use Rattle.bus_semantics.specs.SoundPlan.{is_in}
-use Rattle.bus_semantics.specs.SoundLists.{accesses_elem, list_kind}
-use Rattle.bus_semantics.specs.SoundAccesses.{access_sound, each_access}
-use Rattle.bus_semantics.specs.Sound.{IsSound}
 use Rattle.history_laws.specs.LookUps.{Sought, sought}
 use Rattle.history_laws.proofs.Served.{kind_same}
 use Rattle.history_laws.proofs.Asked.{IsListed}

@@ -1,12 +1,10 @@
 -- The numbers of accesses: one access more, and what stands under them in an instance.
-use Rattle.std.proofs.Common.{◌≡◌, ℕ, suc, ◌+◌, ◌<◌, ◌≤◌, List, [], ◌∷◌, ◌++◌, Bool, true, false, ◌&&◌, if◌then◌else◌, drop, length, map, get_or, refl, sym, ap, ◌∙◌, arith, append_assoc, length-append}
+use Rattle.std.proofs.Common.{◌≡◌, ℕ, suc, ◌+◌, ◌<◌, ◌≤◌, List, [], ◌∷◌, ◌++◌, Bool, true, false, ◌&&◌, if◌then◌else◌, drop, length, map, get_or, refl, sym, ap, ◌∙◌, arith, append_assoc}
+use Rattle.std.proofs.Common.{length-append}
 use Rattle.std.specs.Prelude.{◌==◌}
 use Rattle.std.proofs.Math.Seq.{get_or-append_seam}
-use Rattle.std.proofs.lemmas.Bool.{and_parts}
-use Rattle.std.proofs.lemmas.List.{drop_more, get_or_append_left}
-use Rattle.runnable_lang.specs.declared.program.AccessKind.{AccessKind}
-use Rattle.runnable_lang.specs.declared.program.AccessSig.{AccessSig}
-use Rattle.bus_semantics.specs.State.{same_kind, is_to, found}
+use Rattle.bus_semantics.specs.Common.{and_parts, drop_more, AccessKind, AccessSig, same_kind, is_to, found}
+use Rattle.std.proofs.lemmas.List.{get_or_append_left}
 use Rattle.implicit_buffers.specs.Buffers.{named}
 use Rattle.history_laws.proofs.Served.{kind_same}
 use Rattle.task_generator.specs.Numbers.{counts_among, counted, numbers_from}

@@ -1,25 +1,13 @@
 -- What a sound plan bounds of its runnables.
 use Rattle.std.proofs.Common.{◌≡◌, ◌≤◌, ℕ, ◌+◌, suc, Bool, true, false, ◌&&◌, ◌||◌, not, if◌then◌else◌, refl, sym, ap, ◌∙◌, subst, arith, List, [], ◌∷◌, length, replicate, Option, Some, None}
 use Rattle.std.specs.Prelude.{nat_le, ◌==◌}
-use Rattle.std.specs.List.{slice_get}
-use Rattle.std.proofs.lemmas.Bool.{and_parts, false≢true, leb-true}
-use Rattle.std.proofs.lemmas.List.{length-replicate}
-use Rattle.rte_value.specs.declared.kinds.Limits.{Limits}
-use Rattle.rte_value.specs.Values.{same_number}
-use Rattle.runnable_lang.specs.declared.program.AccessKind.{AccessKind}
+use Rattle.bus_semantics.specs.Common.{slice_get, and_parts, false≢true, leb-true, length-replicate, Limits, same_number, AccessKind, AccessSig, body_cost, Plan, Runnable, same_kind, is_to}
+use Rattle.bus_semantics.specs.Common.{found, is_in, same_limits, access_sound, each_access, point_takes, accesses_distinct, areas_rise, body_sound, IsSound}
 use Rattle.runnable_lang.specs.declared.program.AccessKind.TheVariants as kind
-use Rattle.runnable_lang.specs.declared.program.AccessSig.{AccessSig}
-use Rattle.runnable_lang.specs.Costs.{body_cost}
 use Rattle.bus_semantics.specs.declared.plan.ElemPlan.{ElemPlan}
 use Rattle.bus_semantics.specs.declared.plan.PointPlan.{PointPlan}
 use Rattle.bus_semantics.specs.declared.script.Mapping.{Mapping}
-use Rattle.bus_semantics.specs.Plan.{Plan, Runnable}
-use Rattle.bus_semantics.specs.State.{same_kind, is_to, found}
-use Rattle.bus_semantics.specs.SoundPlan.{is_in}
-use Rattle.bus_semantics.specs.SoundElements.{same_limits}
-use Rattle.bus_semantics.specs.SoundAccesses.{access_sound, each_access, takes_words, point_takes, accesses_distinct, areas_rise}
-use Rattle.bus_semantics.specs.SoundPrograms.{body_sound}
-use Rattle.bus_semantics.specs.Sound.{IsSound}
+use Rattle.bus_semantics.specs.SoundAccesses.{takes_words}
 use Rattle.history_laws.specs.LookUps.{sought}
 use Rattle.history_laws.proofs.Served.{kind_same, sound_of_kind}
 use Rattle.history_laws.proofs.Accesses.{elem_is, point_is, whole, accesses_sound}

@@ -1,9 +1,8 @@
 -- Instructions that are written after those that they pass over.
 use Rattle.std.proofs.Common.{◌≡◌, ℕ, ◌+◌, ◌-◌, List, [], ◌∷◌, ◌++◌, length, map, set, sym, ap, ◌∙◌, arith, append_assoc, length-append}
 use Rattle.std.proofs.Math.Seq.{set-append_seam}
-use Rattle.std.proofs.lemmas.List.{map-set, length-map}
+use Rattle.bus_semantics.specs.Common.{map-set, length-map, ExprTree}
 use Rattle.task_machine.specs.declared.instr.Instr.{Instr}
-use Rattle.runnable_lang.specs.Trees.{ExprTree}
 use Rattle.task_machine.specs.Instructions.{Shared, instruction_of, unless, skip, begin_loop, end_loop}
 use Rattle.task_generator.specs.Shared.{fixed, choosing_shared, looping_shared}
 

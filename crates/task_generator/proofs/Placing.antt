@@ -1,11 +1,8 @@
 -- A runnable, and its elements, at its place.
 use Rattle.std.proofs.Common.{◌≡◌, ℕ, ◌<◌, List, [], map, length, get_or, Some, sym, ◌∙◌, ap, arith}
 use Rattle.std.specs.Prelude.{slice_get}
-use Rattle.std.specs.Option.{option_map}
-use Rattle.std.proofs.lemmas.Option.{slice_get-map, slice_get-get_or}
-use Rattle.std.proofs.lemmas.List.{get_or-map, length-map}
+use Rattle.bus_semantics.specs.Common.{option_map, slice_get-map, slice_get-get_or, get_or-map, length-map, Runnable, runnable_of}
 use Rattle.bus_semantics.specs.declared.plan.RunnablePlan.{RunnablePlan}
-use Rattle.bus_semantics.specs.Plan.{Runnable, runnable_of}
 
 pub listed : (f : Runnable → List ℕ) (runnables : List RunnablePlan) (i : ℕ) (d : RunnablePlan) → i < length runnables → get_or (map f (map runnable_of runnables)) i [] ≡ f (runnable_of (get_or runnables i d))
 listed f runnables i d below =

@@ -2,24 +2,13 @@
 use mathlib.Core.HLevel.{hedberg}
 use Rattle.std.proofs.Common.{◌≡◌, ℕ, ℤ, pos, List, [], ◌∷◌, length, map, get_or, replicate, Bool, true, false, if◌then◌else◌, Option, Some, None, refl, sym, ap, ◌∙◌, arith}
 use Rattle.std.specs.Prelude.{zero, suc, slice_get, ◌==◌, ◌||◌, is_some}
-use Rattle.std.specs.List.{list_any}
-use Rattle.std.specs.Option.{option_map, option_map_or}
-use Rattle.std.proofs.lemmas.Bool.{false≢true}
-use Rattle.std.proofs.lemmas.List.{length-replicate}
-use Rattle.std.proofs.lemmas.Option.{slice_get-map}
-use Rattle.rte_value.specs.declared.value.Value.{Value}
-use Rattle.rte_value.specs.Values.{words_of}
+use Rattle.bus_semantics.specs.Common.{list_any, option_map, option_map_or, false≢true, length-replicate, slice_get-map, Value, words_of, Plan, Runnable, disabling_of, IsSound, Wanted}
+use Rattle.bus_semantics.specs.Common.{same_wanted, stored, is_over, state_at_start, next_of_activity}
 use Rattle.bus_semantics.specs.declared.entries.Deed.{Deed}
 use Rattle.bus_semantics.specs.declared.entries.Deed.TheVariants as deed
 use Rattle.bus_semantics.specs.declared.plan.EventPlan.{EventPlan}
-use Rattle.bus_semantics.specs.Plan.{Plan, Runnable, disabling_of}
 use Rattle.bus_semantics.specs.declared.script.Mapping.{Mapping}
-use Rattle.bus_semantics.specs.Sound.{IsSound}
-use Rattle.bus_semantics.specs.Wanted.{Wanted, same_wanted}
 use Rattle.bus_semantics.proofs.SameWanted.{same_wanted-Decides}
-use Rattle.bus_semantics.specs.State.{stored}
-use Rattle.bus_semantics.specs.History.{is_over}
-use Rattle.bus_semantics.specs.Activations.{state_at_start, next_of_activity}
 use Rattle.task_machine.specs.declared.instr.Body.{Body}
 use Rattle.task_machine.specs.declared.instr.TaskSet.{TaskSet}
 use Rattle.task_machine.specs.Store.{Store}

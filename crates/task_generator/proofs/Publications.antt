@@ -1,9 +1,6 @@
 -- One fetch more, and one publication more.
 use Rattle.std.proofs.Common.{◌≡◌, ℕ, ◌+◌, ◌<◌, List, [], ◌∷◌, ◌++◌, map, drop, length, get_or, refl, sym, ap, ◌∙◌, append_assoc}
-use Rattle.std.proofs.lemmas.List.{drop_more, map-append}
-use Rattle.bus_semantics.specs.Plan.{Plan}
-use Rattle.bus_semantics.specs.Lists.{elems_of}
-use Rattle.bus_semantics.specs.Activations.{Implicit, one, all_of}
+use Rattle.bus_semantics.specs.Common.{drop_more, map-append, Plan, elems_of, Implicit, one, all_of}
 use Rattle.implicit_buffers.specs.declared.fetchings.Fetching.{Fetching}
 use Rattle.implicit_buffers.specs.Fetchings.{implicit_of, implicits_of}
 use Rattle.task_machine.specs.declared.instr.Request.TheVariants as request

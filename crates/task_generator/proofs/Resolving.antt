@@ -1,16 +1,10 @@
 -- The instructions that instances share are, in an instance, those of its program.
 use Rattle.std.proofs.Common.{◌≡◌, ℕ, ◌+◌, ℤ, List, [], ◌∷◌, ◌++◌, Bool, true, false, if◌then◌else◌, length, map, get_or, refl, sym, ap, ◌∙◌, arith}
-use Rattle.std.proofs.lemmas.List.{map-append, length-map}
-use Rattle.rte_value.specs.Arithmetic.{clamped_each}
-use Rattle.runnable_lang.specs.declared.program.AccessKind.{AccessKind}
+use Rattle.bus_semantics.specs.Common.{map-append, length-map, clamped_each, AccessKind, AccessSig, ExprTree, StmtTree, sets, chooses, repeats, in_area, writes, reads, invalidates}
+use Rattle.bus_semantics.specs.Common.{asks_updated, sends, receives, writes_late, reads_early, writes_variable, reads_variable, writes_variable_late, reads_variable_early, calls}
+use Rattle.bus_semantics.specs.Common.{calls_and_goes_on, takes_result, switches, asks_mode, BodyTree, done, next, worth, Runnable, Wanted, to_write, to_read, to_invalidate, to_see_updated}
+use Rattle.bus_semantics.specs.Common.{to_send, to_receive, to_ask, to_take_result, to_enter, to_leave, to_switch, to_see_mode, access, is_to, is_read_early, is_written_late}
 use Rattle.runnable_lang.specs.declared.program.AccessKind.TheVariants as kind
-use Rattle.runnable_lang.specs.declared.program.AccessSig.{AccessSig}
-use Rattle.runnable_lang.specs.Trees.{ExprTree, StmtTree, sets, chooses, repeats, in_area, writes, reads, invalidates, asks_updated, sends, receives, writes_late, reads_early, writes_variable, reads_variable, writes_variable_late, reads_variable_early, calls, calls_and_goes_on, takes_result, switches, asks_mode, BodyTree, done, next}
-use Rattle.runnable_lang.specs.Expressions.{worth}
-use Rattle.bus_semantics.specs.Plan.{Runnable}
-use Rattle.bus_semantics.specs.Wanted.{Wanted, to_write, to_read, to_invalidate, to_see_updated, to_send, to_receive, to_ask, to_take_result, to_enter, to_leave, to_switch, to_see_mode}
-use Rattle.bus_semantics.specs.State.{access, is_to}
-use Rattle.bus_semantics.specs.Activations.{is_read_early, is_written_late}
 use Rattle.task_machine.specs.declared.instr.Taken.{Taken}
 use Rattle.task_machine.specs.declared.instr.Taken.TheVariants as taken
 use Rattle.task_machine.specs.declared.instr.Targets.{Targets}
@@ -18,11 +12,9 @@ use Rattle.task_machine.specs.Store.{Store}
 use Rattle.task_machine.specs.Targets.{number_at, fetched_at, written_at}
 use Rattle.task_machine.specs.Instructions.{Instruction, Shared, resolved, unless, skip, begin_loop, end_loop, load, keep}
 use Rattle.implicit_buffers.specs.Buffers.{fetched_by, published_by}
-use Rattle.task_generator.specs.Slots.{slot_of}
-use Rattle.task_generator.specs.Nothing.{does_nothing}
-use Rattle.task_generator.specs.Numbers.{counts_among, numbers, numbered}
-use Rattle.task_generator.specs.Code.{calling_code, given_over, choosing_code, looping_code, hearing_code, code_of, code_of_body}
-use Rattle.task_generator.specs.Shared.{targets_of, fixed, calling_shared, choosing_shared, looping_shared, shared_of, shared_of_body}
+use Rattle.task_generator.specs.Common.{slot_of, does_nothing, counts_among, numbers, numbered, calling_code, given_over, looping_code, code_of, code_of_body, targets_of, fixed}
+use Rattle.task_generator.specs.Common.{calling_shared, choosing_shared, looping_shared, shared_of, shared_of_body}
+use Rattle.task_generator.specs.Code.{choosing_code, hearing_code}
 use Rattle.task_generator.proofs.Numbering.{many_numbers, same_ins, placed, all_named}
 
 -- ---- instructions that name no access

@@ -1,11 +1,9 @@
 -- Bodies that share code.
 use Rattle.std.proofs.Common.{◌≡◌, ℕ, zero, suc, ◌+◌, ◌≤◌, cond, subst, List, [], ◌∷◌, ◌++◌, Bool, true, false, map, take, length, Option, Some, refl, sym, ap, ◌∙◌, arith}
 use Rattle.std.specs.Prelude.{slice_get, nat_eq}
-use Rattle.std.proofs.lemmas.List.{map-append}
-use Rattle.std.proofs.lemmas.Bool.{and_parts, eqb-true}
+use Rattle.bus_semantics.specs.Common.{map-append, and_parts, eqb-true, HaveOneCode, coded_of}
 use Rattle.bus_semantics.specs.declared.plan.BusPlan.{BusPlan}
 use Rattle.bus_semantics.specs.declared.plan.RunnablePlan.{RunnablePlan}
-use Rattle.bus_semantics.specs.Codes.{HaveOneCode, coded_of}
 use Rattle.task_machine.specs.declared.instr.Body.{Body}
 use Rattle.task_generator.specs.Coded.{coded_shape, code_of_body, HaveCodes, same_code}
 

@@ -1,25 +1,22 @@
 -- The body of a program does what the program does: by recursion on the statements.
 use Rattle.std.proofs.Common.{◌≡◌, ℕ, ◌+◌, ◌≤◌, pos, List, [], ◌∷◌, ◌++◌, ◌*◌, length, Bool, true, false, if◌then◌else◌, Some, refl, sym, subst, arith, length-append}
 use Rattle.std.specs.Prelude.{slice_get}
-use Rattle.std.specs.Ordering.{int_eq}
+use Rattle.bus_semantics.specs.Common.{int_eq, StmtTree, sets, chooses, repeats, in_area, writes, reads, invalidates, asks_updated, sends, receives, writes_late, reads_early}
+use Rattle.bus_semantics.specs.Common.{writes_variable, reads_variable, writes_variable_late, reads_variable_early, calls, calls_and_goes_on, takes_result, switches, asks_mode, BodyTree}
+use Rattle.bus_semantics.specs.Common.{done, next, worth, Runnable, Wanted, to_write, to_read, to_invalidate, to_see_updated, to_send, to_receive, to_ask, to_take_result, to_enter, to_leave}
+use Rattle.bus_semantics.specs.Common.{to_switch, to_see_mode, State, access, Go, both, calling, times, takes_nothing, takes_zero, takes_code, takes_number, takes_value, takes_words}
+use Rattle.bus_semantics.specs.Common.{running, running_body}
 use Rattle.runnable_lang.specs.declared.program.AccessKind.TheVariants as kind
-use Rattle.runnable_lang.specs.Trees.{StmtTree, sets, chooses, repeats, in_area, writes, reads, invalidates, asks_updated, sends, receives, writes_late, reads_early, writes_variable, reads_variable, writes_variable_late, reads_variable_early, calls, calls_and_goes_on, takes_result, switches, asks_mode, BodyTree, done, next}
-use Rattle.runnable_lang.specs.Expressions.{worth}
 use Rattle.bus_semantics.specs.declared.entries.Deed.{Deed}
-use Rattle.bus_semantics.specs.Plan.{Runnable}
-use Rattle.bus_semantics.specs.Wanted.{Wanted, to_write, to_read, to_invalidate, to_see_updated, to_send, to_receive, to_ask, to_take_result, to_enter, to_leave, to_switch, to_see_mode}
-use Rattle.bus_semantics.specs.State.{State, access}
-use Rattle.bus_semantics.specs.Programs.{Go, both, calling, times, takes_nothing, takes_zero, takes_code, takes_number, takes_value, takes_words, running, running_body}
 use Rattle.task_machine.specs.declared.instr.Taken.TheVariants as taken
 use Rattle.task_machine.specs.Store.{Store}
 use Rattle.task_machine.specs.Instructions.{Instruction, skip, end_loop, call, change_of, passes_nothing}
 use Rattle.implicit_buffers.specs.Buffers.{fetched_by, published_by}
-use Rattle.task_generator.specs.Nothing.{does_nothing}
-use Rattle.task_generator.specs.Code.{given_over, looping_code, code_of, code_of_body}
-use Rattle.task_generator.specs.Bounds.{steps, steps_of_body, loops, loops_of_body}
+use Rattle.task_generator.specs.Common.{does_nothing, given_over, looping_code, code_of, code_of_body, steps, steps_of_body, loops, loops_of_body}
 use Rattle.task_generator.proofs.Idle.{stmt_idle}
 use Rattle.task_generator.proofs.Agreeing.{Slots, store_in}
-use Rattle.task_generator.proofs.Following.{Keeps, Keeps-itself, Keeps-further, Fit, Follows, nothing_runs, with_more, ends_at, keeping, joined, assign_runs, load_runs, keep_runs, call_runs, ask_runs, choice_runs, loop_runs}
+use Rattle.task_generator.proofs.Following.{Keeps, Keeps-itself, Keeps-further, Fit, Follows, nothing_runs, with_more, ends_at, keeping, joined, assign_runs, load_runs, keep_runs, call_runs}
+use Rattle.task_generator.proofs.Following.{ask_runs, choice_runs, loop_runs}
 
 -- these instructions stand at a place
 abbrev pub HasAt : List Instruction → ℕ → List Instruction → Type 0

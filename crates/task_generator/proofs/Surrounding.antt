@@ -1,24 +1,17 @@
 -- What stands around a program does what the activity does there: the fetches, the publications, the return and the end.
 use Rattle.std.proofs.Common.{◌≡◌, ℕ, suc, ◌+◌, ◌-◌, ◌*◌, ◌<◌, ℤ, pos, List, [], ◌∷◌, take, length, get_or, Bool, true, false, if◌then◌else◌, Option, Some, None, refl, sym, ap, ◌∙◌, subst, arith}
 use Rattle.std.specs.Prelude.{slice_get, is_none, flat_map}
-use Rattle.std.specs.List.{list_any}
-use Rattle.std.specs.Option.{option_map_or}
+use Rattle.bus_semantics.specs.Common.{list_any, option_map_or, Plan, Runnable, to_fetch, to_publish, to_fetch_all, to_publish_all, to_return, to_end, elems_of, mask_of, split, State}
+use Rattle.bus_semantics.specs.Common.{found_under, words_under, keep_fetched, keep_each, words_in, Outcome, Go, Running, nothing, calling, takes_nothing, Implicit, one, all_of, each}
+use Rattle.bus_semantics.specs.Common.{fetching_it, publishing_one, is_written, declared_code, results, returning, ending}
 use Rattle.bus_semantics.specs.declared.plan.ServerPlan.{ServerPlan}
 use Rattle.bus_semantics.specs.declared.entries.Deed.{Deed}
-use Rattle.bus_semantics.specs.Plan.{Plan, Runnable}
-use Rattle.bus_semantics.specs.Wanted.{to_fetch, to_publish, to_fetch_all, to_publish_all, to_return, to_end}
-use Rattle.bus_semantics.specs.Lists.{elems_of, mask_of, split}
-use Rattle.bus_semantics.specs.State.{State, found_under, words_under, keep_fetched, keep_each, words_in}
-use Rattle.bus_semantics.specs.Programs.{Outcome, Go, Running, nothing, calling, takes_nothing}
-use Rattle.bus_semantics.specs.Activations.{Implicit, one, all_of, each, fetching_it, publishing_one, is_written, declared_code, results, returning, ending}
 use Rattle.task_machine.specs.declared.instr.Taken.TheVariants as taken
 use Rattle.task_machine.specs.Store.{words_or_none, written_in}
 use Rattle.task_machine.specs.Listed.{any_written, marks_of, words_written}
 use Rattle.task_machine.specs.Machine.{settled}
 use Rattle.task_machine.specs.Instructions.{Instruction, unwritten, none_written, change_of}
-use Rattle.task_generator.specs.Slots.{slot_of}
-use Rattle.task_generator.specs.Servers.{served}
-use Rattle.task_generator.specs.Code.{slots_among, parts_of, fetching_code, publishing_code, returning_code, ending_code}
+use Rattle.task_generator.specs.Common.{slot_of, served, slots_among, parts_of, fetching_code, publishing_code, returning_code, ending_code}
 use Rattle.task_generator.proofs.Together.{fetch_together, any_of_them, marks_are, words_are}
 use Rattle.task_generator.proofs.Listed.{Slotted, AreSlotted}
 use Rattle.task_generator.proofs.Cutting.{cutting_all, cutting_it}

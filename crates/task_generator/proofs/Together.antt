@@ -1,15 +1,10 @@
 -- What lies in the slots of a coherent list's elements is what stands under the elements.
 use Rattle.std.proofs.Common.{◌≡◌, ℕ, zero, suc, ◌≤◌, ℤ, List, [], ◌∷◌, ◌++◌, take, drop, length, ◌||◌, if◌then◌else◌, Option, Some, None, refl, sym, ap, ◌∙◌, arith}
 use Rattle.std.specs.Prelude.{◌+◌, ◌*◌, flat_map, is_some}
-use Rattle.std.specs.List.{list_any}
-use Rattle.bus_semantics.specs.Plan.{Plan}
-use Rattle.bus_semantics.specs.Lists.{mask_of, split, words_at}
-use Rattle.bus_semantics.specs.State.{State, found_under, words_under, keep_fetched, keep_each}
-use Rattle.bus_semantics.specs.Activations.{is_written}
+use Rattle.bus_semantics.specs.Common.{list_any, Plan, mask_of, split, words_at, State, found_under, words_under, keep_fetched, keep_each, is_written}
 use Rattle.task_machine.specs.Store.{written_in, words_or_none}
 use Rattle.task_machine.specs.Listed.{has_written, any_written, marks_of, words_written, with_parts}
-use Rattle.task_generator.specs.Slots.{slot_of}
-use Rattle.task_generator.specs.Code.{slots_among, parts_of}
+use Rattle.task_generator.specs.Common.{slot_of, slots_among, parts_of}
 use Rattle.task_generator.proofs.Slots.{HaveSlots}
 use Rattle.task_generator.proofs.Agreeing.{Slots, store_in, Agrees, after_fetch, fetch_agrees}
 

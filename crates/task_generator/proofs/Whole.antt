@@ -1,14 +1,10 @@
 -- The instructions of a body: those around its program, and those that it shares.
 use Rattle.std.proofs.Common.{◌≡◌, ℕ, ◌+◌, List, [], ◌∷◌, ◌++◌, map, take, drop, length, Option, refl, sym, ap, ◌∙◌, arith, length-append}
-use Rattle.std.proofs.lemmas.List.{map-append, length-map}
+use Rattle.bus_semantics.specs.Common.{map-append, length-map, Plan, Runnable, Implicit, BodyTree}
 use Rattle.bus_semantics.specs.declared.plan.ServerPlan.{ServerPlan}
-use Rattle.bus_semantics.specs.Plan.{Plan, Runnable}
-use Rattle.bus_semantics.specs.Activations.{Implicit}
 use Rattle.task_machine.specs.declared.instr.Instr.{Instr}
 use Rattle.task_machine.specs.Instructions.{Shared, instruction_of, resolved}
-use Rattle.runnable_lang.specs.Trees.{BodyTree}
-use Rattle.task_generator.specs.Code.{code_of_body, fetching_code, publishing_code, returning_code, ending_code}
-use Rattle.task_generator.specs.Shared.{targets_of, fixed, before_code, after_code, shared_of_body}
+use Rattle.task_generator.specs.Common.{code_of_body, fetching_code, publishing_code, returning_code, ending_code, targets_of, fixed, before_code, after_code, shared_of_body}
 use Rattle.task_generator.proofs.Resolving.{fixed_is, body_is}
 
 cut_front : (code : List Instr) (xs ys : List Shared) → map instruction_of code ≡ xs ++ ys → map instruction_of (take (length xs) code) ≡ xs

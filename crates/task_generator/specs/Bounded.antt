@@ -1,10 +1,7 @@
 -- What a sound plan bounds of a runnable, so that its body fits in words, jumps and a budget.
 use Rattle.std.specs.Prelude.{◌≡◌, ◌≤◌, ℕ, List, length, Bool, true, false}
-use Rattle.runnable_lang.specs.declared.program.AccessKind.{AccessKind}
+use Rattle.bus_semantics.specs.Common.{AccessKind, AccessSig, body_cost, Plan, Runnable}
 use Rattle.runnable_lang.specs.declared.program.AccessKind.TheVariants as kind
-use Rattle.runnable_lang.specs.declared.program.AccessSig.{AccessSig}
-use Rattle.runnable_lang.specs.Costs.{body_cost}
-use Rattle.bus_semantics.specs.Plan.{Plan, Runnable}
 use Rattle.task_generator.specs.Numbers.{numbered}
 use Rattle.task_generator.specs.Servers.{served, arguments_in}
 

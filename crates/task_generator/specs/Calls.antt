@@ -1,6 +1,7 @@
 -- The instructions of statements that hold no statements, in three groups.
 use Rattle.std.specs.Prelude.{List, []}
-use Rattle.runnable_lang.specs.Trees.{StmtTree, sets, chooses, repeats, in_area, writes, reads, invalidates, asks_updated, sends, receives, writes_late, reads_early, writes_variable_late, reads_variable_early}
+use Rattle.runnable_lang.specs.Trees.{StmtTree, sets, chooses, repeats, in_area, writes, reads, invalidates, asks_updated, sends, receives, writes_late, reads_early, writes_variable_late}
+use Rattle.runnable_lang.specs.Trees.{reads_variable_early}
 use Rattle.runnable_lang.specs.declared.program.AccessSig.{AccessSig}
 use Rattle.task_machine.specs.Instructions.{Shared}
 use Rattle.task_generator.specs.Shared.{shared_of}

@@ -1,15 +1,12 @@
 -- The instructions of a program: those of each statement, one after the other.
 use Rattle.std.specs.Prelude.{ℕ, ◌+◌, ℤ, pos, List, [], ◌∷◌, ◌++◌, map, length, get_or, if◌then◌else◌, Option, Some, None}
-use Rattle.rte_value.specs.Arithmetic.{clamped_each}
+use Rattle.bus_semantics.specs.Common.{clamped_each, ExprTree, StmtTree, sets, chooses, repeats, in_area, writes, reads, invalidates, asks_updated, sends, receives, writes_late, reads_early}
+use Rattle.bus_semantics.specs.Common.{writes_variable, reads_variable, writes_variable_late, reads_variable_early, calls, calls_and_goes_on, takes_result, switches, asks_mode, BodyTree}
+use Rattle.bus_semantics.specs.Common.{done, next, worth, Plan, Runnable, Wanted, to_admit, to_fetch, to_write, to_read, to_invalidate, to_see_updated, to_send, to_receive, to_ask, to_hear}
+use Rattle.bus_semantics.specs.Common.{to_take_result, to_enter, to_leave, to_switch, to_see_mode, to_publish, to_fetch_all, to_publish_all, to_return, to_end, Access, access, elems_of}
+use Rattle.bus_semantics.specs.Common.{words_at, Implicit, one, all_of, fetches_of, publications_of, declared_code, results}
 use Rattle.runnable_lang.specs.declared.program.AccessKind.TheVariants as kind
-use Rattle.runnable_lang.specs.Trees.{ExprTree, StmtTree, sets, chooses, repeats, in_area, writes, reads, invalidates, asks_updated, sends, receives, writes_late, reads_early, writes_variable, reads_variable, writes_variable_late, reads_variable_early, calls, calls_and_goes_on, takes_result, switches, asks_mode, BodyTree, done, next}
-use Rattle.runnable_lang.specs.Expressions.{worth}
 use Rattle.bus_semantics.specs.declared.plan.ServerPlan.{ServerPlan}
-use Rattle.bus_semantics.specs.Plan.{Plan, Runnable}
-use Rattle.bus_semantics.specs.Wanted.{Wanted, to_admit, to_fetch, to_write, to_read, to_invalidate, to_see_updated, to_send, to_receive, to_ask, to_hear, to_take_result, to_enter, to_leave, to_switch, to_see_mode, to_publish, to_fetch_all, to_publish_all, to_return, to_end}
-use Rattle.bus_semantics.specs.State.{Access, access}
-use Rattle.bus_semantics.specs.Lists.{elems_of, words_at}
-use Rattle.bus_semantics.specs.Activations.{Implicit, one, all_of, fetches_of, publications_of, declared_code, results}
 use Rattle.task_machine.specs.declared.instr.SlotPart.{SlotPart}
 use Rattle.task_machine.specs.declared.instr.Taken.{Taken}
 use Rattle.task_machine.specs.declared.instr.Taken.TheVariants as taken

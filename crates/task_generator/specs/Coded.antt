@@ -1,10 +1,9 @@
 -- The code of a runnable's program, and bodies that share it.
 use Rattle.std.specs.Prelude.{◌≡◌, ℕ, List, length, map, take, Bool, ◌&&◌, nat_eq, Some, slice_get}
-use Rattle.std.specs.Arc.{arc_value}
+use Rattle.bus_semantics.specs.Common.{arc_value, Coded, coded_of}
 use Rattle.indexmap.specs.IndexMap.{IndexMap, get}
 use Rattle.bus_semantics.specs.declared.plan.BusPlan.{BusPlan}
 use Rattle.bus_semantics.specs.declared.plan.RunnablePlan.{RunnablePlan}
-use Rattle.bus_semantics.specs.Codes.{Coded, coded_of}
 use Rattle.task_machine.specs.declared.instr.Body.{Body}
 use Rattle.task_machine.specs.declared.instr.Code.{Code}
 use Rattle.task_machine.specs.Instructions.{Shared, instruction_of}

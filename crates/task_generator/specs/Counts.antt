@@ -1,7 +1,6 @@
 -- The next numbers of accesses.
 use Rattle.std.specs.Prelude.{ℕ, if◌then◌else◌}
-use Rattle.runnable_lang.specs.declared.program.AccessKind.{AccessKind}
-use Rattle.bus_semantics.specs.Activations.{is_read_early, is_written_late}
+use Rattle.bus_semantics.specs.Common.{AccessKind, is_read_early, is_written_late}
 use Rattle.task_generator.specs.declared.numbers.Counts.{Counts}
 
 -- the next one of an access of this kind

@@ -1,10 +1,7 @@
 -- The accesses of a signature under their keys.
 use Rattle.std.specs.Prelude.{◌≡◌, ℕ, List, [], Bool, ◌&&◌, nat_eq, Option, Some, None}
 use Rattle.indexmap.specs.IndexMap.{IndexMap, get}
-use Rattle.runnable_lang.specs.declared.program.AccessKind.{AccessKind}
-use Rattle.runnable_lang.specs.declared.program.AccessSig.{AccessSig}
-use Rattle.runnable_lang.specs.Accesses.{kind_number}
-use Rattle.bus_semantics.specs.State.{Access}
+use Rattle.bus_semantics.specs.Common.{AccessKind, AccessSig, kind_number, Access}
 use Rattle.task_generator.specs.declared.accesses.Numbered.{Numbered}
 use Rattle.task_generator.specs.Numbers.{numbered}
 

@@ -12,3 +12,4 @@ pub mod Coded
 pub mod Shapes
 pub mod Promise
 pub mod Found
+pub mod Common

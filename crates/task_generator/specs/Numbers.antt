@@ -1,9 +1,6 @@
 -- The numbers by which the instructions that instances share name the accesses of a signature. The first one is number 1, and 0 names none.
 use Rattle.std.specs.Prelude.{ℕ, suc, List, [], ◌∷◌, Bool, true, if◌then◌else◌}
-use Rattle.runnable_lang.specs.declared.program.AccessKind.{AccessKind}
-use Rattle.runnable_lang.specs.declared.program.AccessSig.{AccessSig}
-use Rattle.bus_semantics.specs.State.{Access, is_to, found}
-use Rattle.bus_semantics.specs.Activations.{is_read_early, is_written_late}
+use Rattle.bus_semantics.specs.Common.{AccessKind, AccessSig, Access, is_to, found, is_read_early, is_written_late}
 
 -- accesses that fetch are counted among themselves, those that publish too, and the others among all
 abbrev pub counts_among : AccessKind → (counted : AccessKind) → Bool

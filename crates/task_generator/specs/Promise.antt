@@ -1,15 +1,8 @@
 -- What bodies promise: an activation asks what the actor rule wants next.
 use Rattle.std.specs.Prelude.{◌≡◌, ℕ, ℤ, List, if◌then◌else◌, Option, Some, None, slice_get}
-use Rattle.std.specs.List.{list_any}
-use Rattle.rte_value.specs.declared.value.Value.{Value}
-use Rattle.rte_value.specs.declared.kinds.ActKey.{ActKey}
-use Rattle.rte_value.specs.Values.{words_of}
+use Rattle.bus_semantics.specs.Common.{list_any, Value, ActKey, words_of, Plan, Runnable, Wanted, is_over, next_of_activity}
 use Rattle.bus_semantics.specs.declared.entries.Deed.{Deed}
 use Rattle.bus_semantics.specs.declared.entries.Deed.TheVariants as deed
-use Rattle.bus_semantics.specs.Plan.{Plan, Runnable}
-use Rattle.bus_semantics.specs.Wanted.{Wanted}
-use Rattle.bus_semantics.specs.History.{is_over}
-use Rattle.bus_semantics.specs.Activations.{next_of_activity}
 use Rattle.task_machine.specs.declared.instr.TaskSet.{TaskSet}
 use Rattle.task_machine.specs.Frames.{asks}
 

@@ -1,7 +1,6 @@
 -- The body of a runnable: its instructions, and what an activation needs for them.
 use Rattle.std.specs.Prelude.{ℕ, ◌+◌, max, List, length}
-use Rattle.bus_semantics.specs.Plan.{Plan, Runnable}
-use Rattle.bus_semantics.specs.Activations.{fetches_of, publications_of}
+use Rattle.bus_semantics.specs.Common.{Plan, Runnable, fetches_of, publications_of}
 use Rattle.task_machine.specs.declared.instr.Body.{Body}
 use Rattle.task_machine.specs.Instructions.{Instruction}
 use Rattle.task_machine.specs.Spots.{code_in}

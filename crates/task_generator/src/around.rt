@@ -1,10 +1,7 @@
 //! What stands around a program: the fetches before it, and the publications and the return behind it.
 
 ghost use Rattle.std.specs.Prelude.{◌≡◌, ◌≤◌, ◌++◌, ◌∷◌, [], length, OnOk, IfOk, map};
-ghost use Rattle.std.specs.Option.{option_copied};
-ghost use Rattle.bus_semantics.specs.Plan.{plan_of, runnable_of};
-ghost use Rattle.bus_semantics.specs.Lists.{elems_of};
-ghost use Rattle.bus_semantics.specs.Activations.{all_of, fetches_of, publications_of};
+ghost use Rattle.bus_semantics.specs.Common.{option_copied, plan_of, runnable_of, elems_of, all_of, fetches_of, publications_of};
 ghost use Rattle.implicit_buffers.specs.Fetchings.{implicit_of, implicits_of};
 ghost use Rattle.task_machine.specs.Instructions.{instruction_of};
 ghost use Rattle.task_generator.specs.Servers.{served, arguments_in, in_places};

@@ -1,8 +1,7 @@
 //! The instructions of statements that hold no statements.
 
 ghost use Rattle.std.specs.Prelude.{◌≡◌, ◌≤◌, ◌++◌, ◌∷◌, [], length, true, IfOk, OnOk, map};
-ghost use Rattle.runnable_lang.specs.Trees.{exprs, stmt_tree, reads_variable, sends, calls, switches};
-ghost use Rattle.bus_semantics.specs.Wanted.{to_write, to_ask};
+ghost use Rattle.bus_semantics.specs.Common.{exprs, stmt_tree, reads_variable, sends, calls, switches, to_write, to_ask};
 ghost use Rattle.task_machine.specs.declared.instr.Taken.TheVariants as taken;
 ghost use Rattle.task_machine.specs.Store.{Store};
 ghost use Rattle.task_machine.specs.Words.{words_given};

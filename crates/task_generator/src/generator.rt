@@ -1,8 +1,7 @@
 //! The instructions of each statement.
 
 ghost use Rattle.std.specs.Prelude.{◌≡◌, ◌≤◌, ◌+◌, ◌++◌, OnOk, map};
-ghost use Rattle.runnable_lang.specs.Trees.{stmt_tree, body_tree, repeats, in_area};
-ghost use Rattle.runnable_lang.specs.Costs.{stmt_cost, body_cost};
+ghost use Rattle.bus_semantics.specs.Common.{stmt_tree, body_tree, repeats, in_area, stmt_cost, body_cost};
 ghost use Rattle.task_machine.specs.Instructions.{instruction_of};
 ghost use Rattle.task_generator.specs.Bounds.{loops, loops_of_body};
 ghost use Rattle.task_generator.specs.Shared.{shared_of, shared_of_body};

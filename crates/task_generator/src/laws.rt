@@ -1,9 +1,7 @@
 //! Laws of what a body executes.
 
 ghost use Rattle.std.specs.Prelude.{◌≤◌, ◌*◌, ℕ, length};
-ghost use Rattle.runnable_lang.specs.Trees.{BodyTree};
-ghost use Rattle.runnable_lang.specs.Costs.{body_cost};
-ghost use Rattle.bus_semantics.specs.Plan.{Runnable};
+ghost use Rattle.bus_semantics.specs.Common.{BodyTree, body_cost, Runnable};
 ghost use Rattle.task_generator.specs.Bounds.{steps_of_body, loops_of_body};
 ghost use Rattle.task_generator.specs.Code.{code_of_body};
 

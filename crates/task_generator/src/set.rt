@@ -1,11 +1,8 @@
 //! The bodies of all runnables.
 
 ghost use Rattle.std.specs.Prelude.{◌≡◌, ◌≤◌, ℕ, Some, IfOk, [], length, map, slice_get, get_or, is_some};
-ghost use Rattle.std.specs.Arc.{arc_value};
+ghost use Rattle.bus_semantics.specs.Common.{arc_value, HaveOneCode, coded_of, Runnable, plan_of, runnable_of, IsSound};
 ghost use Rattle.bus_semantics.specs.declared.plan.EventPlan.{EventPlan};
-ghost use Rattle.bus_semantics.specs.Codes.{HaveOneCode, coded_of};
-ghost use Rattle.bus_semantics.specs.Plan.{Runnable, plan_of, runnable_of};
-ghost use Rattle.bus_semantics.specs.Sound.{IsSound};
 ghost use Rattle.implicit_buffers.specs.Buffers.{fetched_by, published_by};
 ghost use Rattle.task_generator.specs.Servers.{served, arguments_in};
 ghost use Rattle.task_generator.specs.Bounded.{IsBounded};

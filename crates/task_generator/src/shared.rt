@@ -1,11 +1,8 @@
 //! The code that the instances of a runnable share.
 
 ghost use Rattle.std.specs.Prelude.{◌≡◌, ℕ, Some, IfOk, slice_get};
-ghost use Rattle.std.specs.Arc.{arc_value};
-ghost use Rattle.std.specs.Option.{option_copied};
+ghost use Rattle.bus_semantics.specs.Common.{arc_value, option_copied, HaveOneCode, coded_of, plan_of, runnable_of};
 ghost use Rattle.indexmap.specs.IndexMap.{get};
-ghost use Rattle.bus_semantics.specs.Codes.{HaveOneCode, coded_of};
-ghost use Rattle.bus_semantics.specs.Plan.{plan_of, runnable_of};
 ghost use Rattle.task_machine.specs.declared.instr.Body.{Body};
 ghost use Rattle.task_generator.specs.Bounded.{IsBounded};
 ghost use Rattle.task_generator.specs.Coded.{AreMade, HaveCodes, coded_shape, same_code, shape_of_code};

@@ -1,10 +1,10 @@
 -- The slots of a coherent list's elements, one slot further.
-use Rattle.std.proofs.Common.{◌≡◌, ℕ, zero, suc, ◌+◌, ◌-◌, ◌*◌, ◌<◌, ◌≤◌, min, ℤ, List, [], ◌∷◌, ◌++◌, take, drop, length, get_or, Bool, true, false, ◌||◌, not, if◌then◌else◌, Option, Some, None, refl, sym, ap, ◌∙◌, arith, append_assoc, length-drop, length-take}
+use Rattle.std.proofs.Common.{◌≡◌, ℕ, zero, suc, ◌+◌, ◌-◌, ◌*◌, ◌<◌, ◌≤◌, min, ℤ, List, [], ◌∷◌, ◌++◌, take, drop, length, get_or, Bool, true, false, ◌||◌, not, if◌then◌else◌, Option, Some}
+use Rattle.std.proofs.Common.{None, refl, sym, ap, ◌∙◌, arith, append_assoc, length-drop, length-take}
 use Rattle.std.specs.Prelude.{◌^◌, flat_map, is_some, is_none}
-use Rattle.std.specs.List.{list_any}
+use Rattle.bus_semantics.specs.Common.{list_any, append-nil, drop_more, drop_all, mask_of}
 use Rattle.std.proofs.Math.Nat.{pow-succ'}
-use Rattle.std.proofs.lemmas.List.{append-nil, drop_more, drop_all, get_or-take}
-use Rattle.bus_semantics.specs.Lists.{mask_of}
+use Rattle.std.proofs.lemmas.List.{get_or-take}
 use Rattle.task_machine.specs.declared.instr.SlotPart.{SlotPart}
 use Rattle.task_machine.specs.Store.{Store, with_fetched, written_in}
 use Rattle.task_machine.specs.Listed.{has_written, any_written, with_parts}

@@ -1,8 +1,7 @@
 -- The words of a return, argument by argument.
 use Rattle.std.proofs.Common.{◌≡◌, ℤ, List, [], ◌∷◌, ◌++◌, Bool, true, false, ◌⊎◌, inl, inr, if◌then◌else◌, refl, sym, ap, ◌∙◌, append_assoc}
-use Rattle.rte_value.specs.Arithmetic.{clamped}
+use Rattle.bus_semantics.specs.Common.{clamped, results}
 use Rattle.bus_semantics.specs.declared.plan.ArgPlan.{ArgPlan}
-use Rattle.bus_semantics.specs.Activations.{results}
 
 -- one argument more
 one_more : (a : ArgPlan) (arguments : List ArgPlan) (x : ℤ) (vars : List ℤ) → results (a ∷ []) (x ∷ []) ++ results arguments vars ≡ results (a ∷ arguments) (x ∷ vars)

@@ -1,10 +1,8 @@
 -- What a frame stands for: a key, the Start of its activation, and the answers so far.
 use Rattle.std.specs.Prelude.{◌≡◌, ℕ, ℤ, ◌≤◌, max, List, [], ◌∷◌, get_or, false, if◌then◌else◌, Option, Some, None, slice_get}
-use Rattle.rte_value.specs.declared.kinds.ActKey.{ActKey}
-use Rattle.rte_value.specs.Values.{words_of}
+use Rattle.bus_semantics.specs.Common.{ActKey, words_of, Wanted, wanted_of}
 use Rattle.bus_semantics.specs.declared.entries.Deed.{Deed}
 use Rattle.bus_semantics.specs.declared.entries.Deed.TheVariants as deed
-use Rattle.bus_semantics.specs.Wanted.{Wanted, wanted_of}
 use Rattle.task_machine.specs.declared.instr.Body.{Body}
 use Rattle.task_machine.specs.declared.instr.TaskSet.{TaskSet}
 use Rattle.task_machine.specs.declared.frame.Next.{Next}

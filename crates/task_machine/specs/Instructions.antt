@@ -1,10 +1,9 @@
 -- What the instructions of a body mean.
 use Rattle.std.specs.Prelude.{ℕ, zero, suc, ℤ, pos, List, map, length, get_or, set, ◌==◌, if◌then◌else◌}
-use Rattle.runnable_lang.specs.Trees.{ExprTree, expr_tree}
+use Rattle.bus_semantics.specs.Common.{ExprTree, expr_tree, Wanted, to_write, to_read, to_invalidate, to_see_updated, to_send, to_receive, to_ask, to_hear, to_take_result, to_enter}
+use Rattle.bus_semantics.specs.Common.{to_leave, to_switch, to_see_mode, to_end, to_admit, to_fetch, to_publish, to_fetch_all, to_publish_all, to_return, stored, code_in, words_in}
+use Rattle.bus_semantics.specs.Common.{number_in, declared_code, results}
 use Rattle.bus_semantics.specs.declared.entries.Deed.{Deed}
-use Rattle.bus_semantics.specs.Wanted.{Wanted, to_write, to_read, to_invalidate, to_see_updated, to_send, to_receive, to_ask, to_hear, to_take_result, to_enter, to_leave, to_switch, to_see_mode, to_end, to_admit, to_fetch, to_publish, to_fetch_all, to_publish_all, to_return}
-use Rattle.bus_semantics.specs.State.{stored, code_in, words_in, number_in}
-use Rattle.bus_semantics.specs.Activations.{declared_code, results}
 use Rattle.task_machine.specs.declared.instr.Request.{Request}
 use Rattle.task_machine.specs.declared.instr.Request.TheVariants as request
 use Rattle.task_machine.specs.declared.instr.Taken.{Taken}

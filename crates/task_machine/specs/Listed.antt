@@ -1,7 +1,6 @@
 -- The slots of a coherent list's elements, in the list's order.
 use Rattle.std.specs.Prelude.{ℕ, ℤ, List, [], ◌∷◌, take, drop, flat_map, Bool, is_some}
-use Rattle.std.specs.List.{list_any}
-use Rattle.bus_semantics.specs.Lists.{mask_of}
+use Rattle.bus_semantics.specs.Common.{list_any, mask_of}
 use Rattle.task_machine.specs.declared.instr.SlotPart.{SlotPart}
 use Rattle.task_machine.specs.Store.{Store, with_fetched, written_in, words_or_none}
 

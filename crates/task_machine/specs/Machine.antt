@@ -1,12 +1,8 @@
 -- How a body runs: instructions that ask nothing of the bus are gone through at once, at a call the activation waits for the answer, and
 -- an End or a refused admission is the last of it (SWS_RTE: runnable activation).
 use Rattle.std.specs.Prelude.{ℕ, zero, suc, ◌+◌, ◌-◌, pos, List, [], ◌∷◌, set, get_or, ◌==◌, if◌then◌else◌, is_none, Option, Some, None, slice_get}
-use Rattle.std.specs.Ordering.{int_eq}
-use Rattle.runnable_lang.specs.Expressions.{worth}
+use Rattle.bus_semantics.specs.Common.{int_eq, worth, Wanted, stored, is_over}
 use Rattle.bus_semantics.specs.declared.entries.Deed.{Deed}
-use Rattle.bus_semantics.specs.Wanted.{Wanted}
-use Rattle.bus_semantics.specs.State.{stored}
-use Rattle.bus_semantics.specs.History.{is_over}
 use Rattle.task_machine.specs.Store.{Store, with_vars, with_written, fetched_in, written_in}
 use Rattle.task_machine.specs.Listed.{any_written}
 use Rattle.task_machine.specs.Instructions.{Instruction, assign, load, keep, unless, unwritten, none_written, skip, begin_loop, end_loop, call}

@@ -1,10 +1,6 @@
 -- What a place in a body stands for, and where an activation begins.
 use Rattle.std.specs.Prelude.{ℕ, ℤ, pos, List, [], ◌++◌, map, take, drop, replicate, None}
-use Rattle.std.specs.Arc.{arc_value}
-use Rattle.std.specs.Option.{option_map}
-use Rattle.std.specs.Vec.{vec_capacity}
-use Rattle.rte_value.specs.Values.{words_of}
-use Rattle.bus_semantics.specs.State.{stored}
+use Rattle.bus_semantics.specs.Common.{arc_value, option_map, vec_capacity, words_of, stored}
 use Rattle.task_machine.specs.declared.instr.Body.{Body}
 use Rattle.task_machine.specs.declared.place.Place.{Place}
 use Rattle.task_machine.specs.declared.store.Store as declared_store

@@ -1,8 +1,6 @@
 -- The words that a call gives.
 use Rattle.std.specs.Prelude.{ℤ, List, map}
-use Rattle.rte_value.specs.Arithmetic.{clamped}
-use Rattle.runnable_lang.specs.Trees.{expr_tree}
-use Rattle.runnable_lang.specs.Expressions.{worth}
+use Rattle.bus_semantics.specs.Common.{clamped, expr_tree, worth}
 use Rattle.task_machine.specs.declared.given.GivenWord.{GivenWord}
 
 -- each word over the variables, clamped to its limits

@@ -1,8 +1,7 @@
 //! The instruction at a place of a body.
 
 ghost use Rattle.std.specs.Prelude.{◌≡◌, ◌≤◌, ◌<◌, ◌+◌, ◌^◌, ◌++◌, length, take, drop, slice_get, IfSome};
-ghost use Rattle.std.specs.Option.{option_copied, option_map};
-ghost use Rattle.std.specs.Arc.{arc_value};
+ghost use Rattle.bus_semantics.specs.Common.{option_copied, option_map, arc_value};
 ghost use Rattle.task_machine.specs.declared.instr.Instr.{Instr};
 ghost use Rattle.task_machine.specs.Instructions.{instruction_of};
 ghost use Rattle.task_machine.specs.Spots.{code_in};

@@ -1,11 +1,8 @@
 //! Frames, which run bodies.
 
 ghost use Rattle.std.specs.Prelude.{◌≡◌, ◌++◌, ◌∷◌, [], List, length, get_or, pos, Some, None, slice_get, IfOk, MatchOption};
-ghost use Rattle.std.specs.Option.{option_copied};
-ghost use Rattle.rte_value.specs.declared.kinds.ActKey.{ActKey};
+ghost use Rattle.bus_semantics.specs.Common.{option_copied, ActKey, declared_code, results, wanted_of, to_write, to_send, to_ask, to_switch, to_publish, to_publish_all, to_return};
 ghost use Rattle.bus_semantics.specs.declared.entries.Deed.{Deed};
-ghost use Rattle.bus_semantics.specs.Activations.{declared_code, results};
-ghost use Rattle.bus_semantics.specs.Wanted.{wanted_of, to_write, to_send, to_ask, to_switch, to_publish, to_publish_all, to_return};
 ghost use Rattle.task_machine.specs.declared.instr.Body.{Body};
 ghost use Rattle.task_machine.specs.Instructions.{requested};
 ghost use Rattle.task_machine.specs.Spots.{store_of};

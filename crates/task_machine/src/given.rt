@@ -1,10 +1,7 @@
 //! The words that a call gives.
 
 ghost use Rattle.std.specs.Prelude.{◌≡◌, ◌≤◌, ◌↔◌, [], ◌∷◌, length, IsSome, IfSome};
-ghost use Rattle.rte_value.specs.Arithmetic.{clamped};
-ghost use Rattle.rte_value.specs.Values.{words_of};
-ghost use Rattle.runnable_lang.specs.Trees.{expr_tree};
-ghost use Rattle.runnable_lang.specs.Expressions.{worth};
+ghost use Rattle.bus_semantics.specs.Common.{clamped, words_of, expr_tree, worth};
 ghost use Rattle.task_machine.specs.Words.{words_given};
 
 use arrayvec::ArrayVec;

@@ -2,8 +2,7 @@
 
 ghost use Rattle.std.specs.Prelude.{◌≡◌, ◌≤◌, ◌<◌, ◌+◌, ◌↔◌, [], ◌∷◌, ◌++◌, length, get_or, pos, IsSome, IfSome};
 ghost use Rattle.arrayvec.specs.ArrayVec.{array_vec_len};
-ghost use Rattle.rte_value.specs.Values.{words_of};
-ghost use Rattle.bus_semantics.specs.Activations.{declared_code, results};
+ghost use Rattle.bus_semantics.specs.Common.{words_of, declared_code, results};
 
 use crate::given::nearest;
 use arrayvec::ArrayVec;

@@ -1,9 +1,7 @@
 //! What a body works on.
 
 ghost use Rattle.std.specs.Prelude.{◌≡◌, ◌≤◌, [], map, get_or, is_none, replicate, set};
-ghost use Rattle.std.specs.Vec.{vec_capacity};
-ghost use Rattle.rte_value.specs.Values.{words_of};
-ghost use Rattle.bus_semantics.specs.State.{stored};
+ghost use Rattle.bus_semantics.specs.Common.{vec_capacity, words_of, stored};
 ghost use Rattle.task_machine.specs.Store.{with_vars, with_fetched, with_written, fetched_in, written_in, words_or_none};
 ghost use Rattle.task_machine.specs.Spots.{store_of, room_of, first_store};
 

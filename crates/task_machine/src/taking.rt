@@ -1,9 +1,7 @@
 //! What a body takes of an answer.
 
 ghost use Rattle.std.specs.Prelude.{◌≡◌};
-ghost use Rattle.rte_value.specs.Values.{words_of};
-ghost use Rattle.bus_semantics.specs.State.{words_in};
-ghost use Rattle.bus_semantics.specs.History.{is_over};
+ghost use Rattle.bus_semantics.specs.Common.{words_of, words_in, is_over};
 ghost use Rattle.task_machine.specs.Instructions.{change_of, passes_of};
 ghost use Rattle.task_machine.specs.Listed.{with_parts};
 ghost use Rattle.task_machine.specs.Spots.{store_of, room_of};

@@ -1,8 +1,6 @@
 -- Tests of keys.
 use Rattle.std.proofs.Common.{◌≡◌, true}
-use Rattle.rte_value.specs.declared.kinds.ActKey.{ActKey}
-use Rattle.rte_value.specs.Values.{same_key}
-use Rattle.rte_value.specs.EqualKeys.{same_key-Decides}
+use Rattle.bus_semantics.specs.Common.{ActKey, same_key, same_key-Decides}
 
 pub key_same : (k j : ActKey) → same_key k j ≡ true → k ≡ j
 key_same k j = (same_key-Decides k j).0

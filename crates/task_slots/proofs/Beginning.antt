@@ -1,30 +1,14 @@
 -- The entry of a start: it fits, and an activation has begun.
 use Rattle.std.proofs.Common.{◌≡◌, ◌⊎◌, inl, ℕ, ℤ, true, refl, sym, ◌∙◌, ap, subst, List, [], Option, Some, None}
-use Rattle.std.specs.List.{slice_get}
-use Rattle.std.proofs.lemmas.Bool.{and_from, false≢true}
-use Rattle.std.proofs.lemmas.Option.{same_Some}
-use Rattle.rte_value.specs.declared.kinds.ActKey.{ActKey}
-use Rattle.rte_value.specs.Values.{words_of}
-use Rattle.bus_semantics.specs.declared.entries.Actor.TheVariants.{Act}
+use Rattle.bus_semantics.specs.Common.{slice_get, and_from, false≢true, same_Some, ActKey, words_of, Plan, Runnable, runnable_of_event, Wanted, to_start, History, note, noted, object_of}
+use Rattle.bus_semantics.specs.Common.{touched_by, key_fits, wish_fits, answer_fits, fits, Answers, is_proper, IsSound}
+use Rattle.bus_laws.specs.Common.{Act, Stamped, Mapping}
 use Rattle.bus_semantics.specs.declared.entries.Deed.TheVariants as deed
-use Rattle.bus_semantics.specs.declared.entries.Stamped.{Stamped}
-use Rattle.bus_semantics.specs.declared.script.Mapping.{Mapping}
-use Rattle.bus_semantics.specs.Plan.{Plan, Runnable, runnable_of_event}
-use Rattle.bus_semantics.specs.Wanted.{Wanted, to_start}
-use Rattle.bus_semantics.specs.History.{History, note, noted}
-use Rattle.bus_semantics.specs.Objects.{object_of, touched_by}
-use Rattle.bus_semantics.specs.Owners.{key_fits}
-use Rattle.bus_semantics.specs.Fitting.{wish_fits, answer_fits, fits}
-use Rattle.bus_semantics.specs.Legal.{Answers}
-use Rattle.bus_semantics.specs.Locality.{is_proper}
-use Rattle.bus_semantics.specs.Sound.{IsSound}
 use Rattle.bus_laws.proofs.Thinning.{option_test}
 use Rattle.task_machine.specs.declared.instr.TaskSet.{TaskSet}
 use Rattle.task_machine.specs.Standing.{Standing}
 use Rattle.task_machine.specs.Frames.{Stands}
-use Rattle.task_slots.specs.Ready.{IsAsking, IsBegun}
-use Rattle.task_slots.specs.Looking.{event_for, IsAlone, IsEntryOf}
-use Rattle.task_slots.specs.Stepping.{noting_of, IsApart}
+use Rattle.task_slots.specs.Common.{IsAsking, IsBegun, event_for, IsAlone, IsEntryOf, noting_of, IsApart}
 use Rattle.task_slots.proofs.Facts.{event_known, started, start_fits}
 use Rattle.task_slots.proofs.Histories.{entry_by, IsStartOf, start_is}
 

@@ -1,24 +1,16 @@
 -- The next call of an activation, as its frame has it; and the keys of what runs in a task.
 use Rattle.std.proofs.Common.{◌≡◌, ℕ, Bool, true, false, refl, sym, ◌∙◌, ap, subst, List, [], ◌∷◌, map, Some}
-use Rattle.rte_value.specs.declared.kinds.ActKey.{ActKey}
-use Rattle.rte_value.specs.Values.{same_key}
-use Rattle.bus_semantics.specs.declared.entries.Actor.TheVariants.{Act}
-use Rattle.bus_semantics.specs.declared.entries.Deed.{Deed}
+use Rattle.bus_semantics.specs.Common.{ActKey, same_key, Plan, Wanted, Try, option_list}
+use Rattle.bus_laws.specs.Common.{Act, Deed}
 use Rattle.bus_semantics.specs.declared.entries.Deed.TheVariants as deed
-use Rattle.bus_semantics.specs.Plan.{Plan}
-use Rattle.bus_semantics.specs.Wanted.{Wanted}
-use Rattle.bus_semantics.specs.Rest.{Try, option_list}
 use Rattle.port_objects.specs.Benches.{Told}
 use Rattle.task_machine.specs.declared.instr.TaskSet.{TaskSet}
 use Rattle.task_machine.specs.Standing.{Standing}
 use Rattle.task_machine.specs.Frames.{asks, Stands, code_of}
 use Rattle.task_machine.specs.Machine.{wanted_at}
 use Rattle.task_generator.specs.Promise.{AsksAsPlanned}
-use Rattle.task_slots.specs.Look.{Look}
-use Rattle.task_slots.specs.declared.slot.Call.{Call}
-use Rattle.task_slots.specs.Slots.{home_by, starts_at, is_key_of, asked_by, next_tries}
-use Rattle.task_slots.specs.Ready.{IsBegun, IsRunning, IsCalled}
-use Rattle.task_slots.specs.Looking.{Looked}
+use Rattle.task_slots.specs.Common.{Look, Call, is_key_of, IsBegun, IsRunning, IsCalled, Looked}
+use Rattle.task_slots.specs.Slots.{home_by, starts_at, asked_by, next_tries}
 use Rattle.task_slots.proofs.Basics.{key_same}
 use Rattle.task_slots.proofs.Facts.{direct_at, call_is}
 

@@ -1,21 +1,11 @@
 -- The start of a direct activation may be tried, and touches its server.
 use Rattle.std.proofs.Common.{◌≡◌, ℕ, sym, ◌∙◌, ap, subst, refl, List, [], ◌∷◌, true, Option, Some, None}
 use Rattle.std.specs.Prelude.{IfSome}
-use Rattle.bus_semantics.specs.declared.entries.Actor.{Actor}
-use Rattle.bus_semantics.specs.declared.entries.Actor.TheVariants.{Act}
-use Rattle.bus_semantics.specs.declared.script.Mapping.{Mapping}
-use Rattle.bus_semantics.specs.Plan.{Plan, kind_of, runnable_of_event}
-use Rattle.bus_semantics.specs.Wanted.{Wanted, to_start}
-use Rattle.bus_semantics.specs.Objects.{object_of_kind, server_object, object_of, IsObject}
-use Rattle.bus_semantics.specs.Fitting.{wish_fits}
-use Rattle.bus_semantics.specs.Rest.{Try}
-use Rattle.bus_semantics.specs.Sound.{IsSound}
+use Rattle.bus_laws.specs.Common.{Actor, Act, Mapping}
+use Rattle.bus_semantics.specs.Common.{Plan, kind_of, runnable_of_event, Wanted, to_start, object_of_kind, server_object, object_of, IsObject, wish_fits, Try, IsSound}
 use Rattle.bus_laws.proofs.Thinning.{option_test}
 use Rattle.port_objects.specs.Benches.{Told}
-use Rattle.task_slots.specs.Look.{Look}
-use Rattle.task_slots.specs.declared.slot.Call.{Call}
-use Rattle.task_slots.specs.Ready.{IsCalled}
-use Rattle.task_slots.specs.Looking.{IsFree, IsTried, looks_at, Looked}
+use Rattle.task_slots.specs.Common.{Look, Call, IsCalled, IsFree, IsTried, looks_at, Looked}
 use Rattle.task_slots.proofs.Facts.{CallIs, call_is, direct_at, start_fits, direct_fits, direct_starts, direct_touches}
 
 module _ (p : Plan) (m : Mapping) (sound : IsSound p m) (c : Call) (called : IsCalled p c) where

@@ -1,28 +1,15 @@
 -- A task that stands for a history stands for a further entry too, by what the entry is to it.
 use Rattle.std.proofs.Common.{◌≡◌, ℕ, Bool, true, false, ◌&&◌, ◌||◌, refl, sym, ◌∙◌, ap, subst, List, [], ◌∷◌, Option, Some, None}
 use Rattle.std.specs.Prelude.{option_and_then, option_map}
-use Rattle.std.proofs.lemmas.Bool.{and_right, false≢true, or_right}
-use Rattle.rte_value.specs.declared.value.Value.{Value}
-use Rattle.rte_value.specs.declared.kinds.ActKey.{ActKey}
-use Rattle.rte_value.specs.Values.{same_key}
-use Rattle.bus_semantics.specs.declared.entries.Deed.{Deed}
+use Rattle.bus_semantics.specs.Common.{and_right, false≢true, or_right, Value, ActKey, same_key, Plan, History, is_over, is_end, is_of, runs, direct_key, accepted_point}
+use Rattle.bus_laws.specs.Common.{Deed, Entry}
 use Rattle.bus_semantics.specs.declared.entries.Deed.TheVariants as deed
-use Rattle.bus_semantics.specs.declared.entries.Entry.{Entry}
-use Rattle.bus_semantics.specs.Plan.{Plan}
-use Rattle.bus_semantics.specs.History.{History, is_over, is_end, is_of, runs}
-use Rattle.bus_semantics.specs.Actor.{direct_key, accepted_point}
 use Rattle.history_laws.proofs.Keys.{begins, runs_other}
 use Rattle.task_machine.specs.declared.instr.TaskSet.{TaskSet}
 use Rattle.task_machine.specs.Standing.{Standing}
 use Rattle.task_machine.specs.Frames.{Stands}
-use Rattle.task_slots.specs.declared.slot.Call.{Call}
-use Rattle.task_slots.specs.declared.slot.Activity.{Activity}
-use Rattle.task_slots.specs.declared.slot.Activity.TheVariants.{Free, Runs, Calls, Serves}
-use Rattle.task_slots.specs.Direct.{call_at, call_in}
-use Rattle.task_slots.specs.Slots.{is_key_of}
-use Rattle.task_slots.specs.Ready.{IsRunning, IsCalled, IsActive}
-use Rattle.task_slots.specs.Standing.{StandsFor, IsHeldBack, ActivityStands, TaskStands}
-use Rattle.task_slots.specs.Stepping.{Fed}
+use Rattle.task_slots.specs.Common.{Call, Activity, Free, Runs, Calls, Serves, call_at, call_in, is_key_of, IsRunning, IsCalled, IsActive, StandsFor, TaskStands, Fed}
+use Rattle.task_slots.specs.Standing.{IsHeldBack, ActivityStands}
 use Rattle.task_slots.proofs.Basics.{same_keys, key_same}
 use Rattle.task_slots.proofs.Facts.{CallIs, call_is}
 use Rattle.task_slots.proofs.Histories.{entry_by, asked_mine, asked_other, answered_free, free_on, freed_now, ended_mine, ended_other, ended_now, frame_on, frame_begun, frame_fed}

@@ -2,17 +2,13 @@
 use Rattle.std.proofs.Common.{◌≡◌, ◌≢◌, ◌≤◌, ◌<◌, ◌+◌, ◌&&◌, ℕ, zero, suc, Bool, true, false, if◌then◌else◌, List, [], ◌∷◌, length, take, get_or, refl, sym, ◌∙◌, ap, subst, arith, Option}
 use mathlib.Core.Logic.{dite}
 use native.Mathlib.Decide.{ℕ_discrete}
-use Rattle.std.proofs.lemmas.List.{take_more}
-use Rattle.std.proofs.Math.Seq.{take-length}
-use Rattle.bus_semantics.specs.Plan.{Plan}
-use Rattle.bus_semantics.specs.History.{count}
+use Rattle.bus_semantics.specs.Common.{take_more, take-length, Plan, count}
 use Rattle.port_objects.specs.Benches.{Work, IsFurther}
 use Rattle.task_slots.specs.declared.slot.Slot.{Slot}
 use Rattle.task_slots.specs.declared.slot.Slot.TheVariants as slot
-use Rattle.task_slots.specs.declared.slot.Activity.{Activity}
-use Rattle.task_slots.specs.declared.slot.Activity.TheVariants.{Free, Runs, Calls, Serves}
-use Rattle.task_slots.specs.Slots.{waits, looks_of, looks}
-use Rattle.task_slots.specs.Waiting.{sum_below, event_looks, task_looks_awake, looks_awake}
+use Rattle.task_slots.specs.Common.{Activity, Free, Runs, Calls, Serves, waits, looks_of, sum_below, event_looks}
+use Rattle.task_slots.specs.Slots.{looks}
+use Rattle.task_slots.specs.Waiting.{task_looks_awake, looks_awake}
 use Rattle.task_slots.proofs.Onward.{work_on, count_on}
 
 -- ---- sums

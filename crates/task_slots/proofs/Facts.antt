@@ -1,39 +1,18 @@
 -- Facts of a sound plan: which starts touch no object, the plain keys of a task's events, and direct keys.
 use Rattle.std.proofs.Common.{◌≡◌, ℕ, zero, suc, ◌<◌, true, false, ◌&&◌, not, ◌==◌, if◌then◌else◌, refl, sym, ◌∙◌, ap, subst, arith, List, [], ◌∷◌, length, Option, Some, None}
 use Rattle.std.specs.Prelude.{nat_lt, is_some, option_map}
-use Rattle.std.specs.List.{slice_get}
-use Rattle.std.specs.Option.{option_map_or}
-use Rattle.std.proofs.lemmas.Bool.{and_from, and_parts, eqb-true, ltb-true, false≢true}
-use Rattle.std.proofs.lemmas.Bool.Decides.{nat_tests}
-use Rattle.std.proofs.lemmas.Option.{same_Some}
-use Rattle.rte_value.specs.declared.kinds.ActKey.{ActKey}
-use Rattle.rte_value.specs.Values.{same_number}
-use Rattle.bus_semantics.specs.declared.plan.ElemPlan.{ElemPlan}
-use Rattle.bus_semantics.specs.declared.plan.ServerPlan.{ServerPlan}
-use Rattle.bus_semantics.specs.declared.plan.EventPlan.{EventPlan}
-use Rattle.bus_semantics.specs.declared.plan.EventKind.{EventKind}
-use Rattle.bus_semantics.specs.declared.plan.EventKind.TheVariants.{Timing, Init, DataReceived, Invoked, Returns, ModeSwitch, Ack}
-use Rattle.bus_semantics.specs.declared.entries.Actor.TheVariants.{Act}
-use Rattle.bus_semantics.specs.declared.script.Mapping.{Mapping}
-use Rattle.bus_semantics.specs.Plan.{Plan, Runnable, look, every_from, server_of, queue_of, kind_of, runnable_of_event, instance_of}
-use Rattle.bus_semantics.specs.Wanted.{to_start}
-use Rattle.bus_semantics.specs.Objects.{object_of_kind, server_object, served_by}
-use Rattle.bus_semantics.specs.Owners.{key_fits, event_fits, serves_directly}
-use Rattle.bus_semantics.specs.Actor.{direct_key}
-use Rattle.bus_semantics.specs.Fitting.{wish_fits}
-use Rattle.bus_semantics.specs.Rest.{plain_key}
-use Rattle.bus_semantics.specs.SoundElements.{server_sound}
-use Rattle.bus_semantics.specs.SoundEvents.{kind_sound, server_served, serves_back}
-use Rattle.bus_semantics.specs.Sound.{IsSound, times_mapped}
+use Rattle.bus_semantics.specs.Common.{slice_get, option_map_or, and_from, and_parts, eqb-true, ltb-true, false≢true, nat_tests, same_Some, ActKey, same_number, Plan, Runnable, look}
+use Rattle.bus_semantics.specs.Common.{every_from, server_of, queue_of, kind_of, runnable_of_event, instance_of, to_start, object_of_kind, server_object, served_by, key_fits, event_fits}
+use Rattle.bus_semantics.specs.Common.{serves_directly, direct_key, wish_fits, plain_key, server_sound, kind_sound, server_served, serves_back, IsSound, times_mapped}
+use Rattle.bus_laws.specs.Common.{ElemPlan, ServerPlan, EventPlan, EventKind, Timing, Init, DataReceived, Invoked, Returns, ModeSwitch, Ack, Act, Mapping}
 use Rattle.bus_laws.proofs.Thinning.{option_test}
 use Rattle.bus_laws.proofs.OneEvent.{event_at, kind_at, kind_part, serves_invoked}
 use Rattle.history_laws.specs.LookUps.{sought, looked, at_place}
 use Rattle.history_laws.proofs.ActivationLists.{bundled}
 use Rattle.history_laws.proofs.Lists.{there_is}
 use Rattle.history_laws.proofs.OneKey.{server_runs, server_home}
-use Rattle.task_slots.specs.declared.slot.Call.{Call}
-use Rattle.task_slots.specs.Direct.{served_event, call_at}
-use Rattle.task_slots.specs.Ready.{may_be_mapped}
+use Rattle.task_slots.specs.Common.{Call, call_at, may_be_mapped}
+use Rattle.task_slots.specs.Direct.{served_event}
 
 -- an event that starts a runnable is there
 pub event_known : (p : Plan) (e i : ℕ) → runnable_of_event p e ≡ Some i → nat_lt e (length p.events) ≡ true

@@ -1,29 +1,19 @@
 -- What a further entry changes: who runs and is held back, the current activation of a key, and what a frame stands for.
 use Rattle.std.proofs.Common.{◌≡◌, ℕ, Bool, true, false, ◌&&◌, not, if◌then◌else◌, refl, sym, ◌∙◌, ap, [], ◌∷◌, ◌++◌, Option, Some, None}
 use Rattle.std.specs.Prelude.{option_and_then, unwrap_or}
-use Rattle.std.proofs.lemmas.Bool.{and_from, false≢true, or_right}
-use Rattle.std.specs.Option.{option_or}
-use Rattle.rte_value.specs.declared.value.Value.{Value}
-use Rattle.rte_value.specs.declared.kinds.ActKey.{ActKey}
-use Rattle.rte_value.specs.Values.{words_of, same_number}
-use Rattle.bus_semantics.specs.declared.entries.Actor.TheVariants.{Act}
-use Rattle.bus_semantics.specs.declared.entries.Deed.{Deed}
+use Rattle.bus_semantics.specs.Common.{and_from, false≢true, or_right, option_or, Value, ActKey, words_of, same_number, Plan, runnable_of_event, Wanted, to_start, wanted_by, same_wanted}
+use Rattle.bus_semantics.specs.Common.{History, is_over, is_end, is_of, event_started, needs_event, runs, last_started, Activation, with_deed, activation_of, next_wish, direct_key}
+use Rattle.bus_semantics.specs.Common.{accepted_point, asked_last, ended_since, is_held_back, caller_has_asked, may_start, is_this, is_wanted_next, starts_or_goes_on, follows_program}
+use Rattle.bus_semantics.specs.Common.{is_start, event_of, starts_its_own}
+use Rattle.bus_laws.specs.Common.{Act, Deed, Entry}
 use Rattle.bus_semantics.specs.declared.entries.Deed.TheVariants as deed
-use Rattle.bus_semantics.specs.declared.entries.Entry.{Entry}
-use Rattle.bus_semantics.specs.Plan.{Plan, runnable_of_event}
 use Rattle.bus_semantics.proofs.SameWanted.{wish_itself}
-use Rattle.bus_semantics.specs.Wanted.{Wanted, to_start, wanted_by, same_wanted}
-use Rattle.bus_semantics.specs.History.{History, is_over, is_end, is_of, event_started, needs_event, runs, last_started}
-use Rattle.bus_semantics.specs.Actor.{Activation, with_deed, activation_of, next_wish, direct_key, accepted_point, asked_last, ended_since, is_held_back, caller_has_asked, may_start, is_this, is_wanted_next, starts_or_goes_on, follows_program}
-use Rattle.bus_semantics.specs.Asked.{is_start, event_of}
-use Rattle.bus_semantics.specs.Locality.{starts_its_own}
 use Rattle.bus_laws.proofs.Thinning.{option_test}
 use Rattle.history_laws.proofs.Keys.{begins, itself, grown, activation_mine, activation_other}
 use Rattle.task_machine.specs.declared.instr.TaskSet.{TaskSet}
 use Rattle.task_machine.specs.Standing.{Standing}
 use Rattle.task_machine.specs.Frames.{Stands}
-use Rattle.task_slots.specs.Standing.{StandsFor}
-use Rattle.task_slots.specs.Stepping.{Fed}
+use Rattle.task_slots.specs.Common.{StandsFor, Fed}
 
 abbrev pub entry_by : ActKey → Deed → Entry
 entry_by k d = record { actor = Act k; deed = d }

@@ -1,14 +1,7 @@
 -- Looks one after the other.
 use Rattle.std.proofs.Common.{◌≡◌, ℕ, suc, ◌+◌, ◌≤◌, Bool, true, false, if◌then◌else◌, refl, sym, ◌∙◌, ap, subst, arith, append_assoc, List, [], ◌∷◌, ◌++◌, Option, Some, None}
-use Rattle.std.proofs.lemmas.Bool.{or_left, or_right}
-use Rattle.std.proofs.lemmas.List.{append-nil}
-use Rattle.std.proofs.lemmas.List.Folds.{list_any-append}
-use Rattle.rte_value.specs.Values.{same_number}
+use Rattle.bus_semantics.specs.Common.{or_left, or_right, append-nil, list_any-append, same_number, Plan, count, object_of, Try, gathered}
 use Rattle.bus_semantics.specs.declared.entries.Stamped.{Stamped}
-use Rattle.bus_semantics.specs.Plan.{Plan}
-use Rattle.bus_semantics.specs.History.{count}
-use Rattle.bus_semantics.specs.Objects.{object_of}
-use Rattle.bus_semantics.specs.Rest.{Try, gathered}
 use Rattle.port_objects.specs.declared.object.Object.{Object}
 use Rattle.port_objects.specs.Benches.{Work, Further, IsFurther, StampAfter, Told}
 use Rattle.task_slots.specs.Look.{Look, Made, Nothing, Contended}

@@ -1,19 +1,11 @@
 -- The phase of a mode machine may be tried, and what comes of the look.
 use Rattle.std.proofs.Common.{◌≡◌, ℕ, ◌<◌, true, refl, arith, length}
 use Rattle.std.specs.Prelude.{nat_lt, IfSome}
-use Rattle.std.proofs.lemmas.Bool.{and_from}
-use Rattle.std.proofs.lemmas.Bool.Decides.{nat_tests}
-use Rattle.bus_semantics.specs.declared.entries.Actor.{Actor}
-use Rattle.bus_semantics.specs.declared.entries.Actor.TheVariants.{Machine}
-use Rattle.bus_semantics.specs.Plan.{Plan}
-use Rattle.bus_semantics.specs.Wanted.{Wanted, to_move_on}
-use Rattle.bus_semantics.specs.Objects.{object_of, IsObject}
-use Rattle.bus_semantics.specs.Fitting.{wish_fits}
+use Rattle.bus_semantics.specs.Common.{and_from, nat_tests, Plan, Wanted, to_move_on, object_of, IsObject, wish_fits}
+use Rattle.bus_laws.specs.Common.{Actor, Machine}
 use Rattle.task_machine.specs.declared.instr.TaskSet.{TaskSet}
 use Rattle.task_slots.specs.declared.slot.Slot.TheVariants as slot
-use Rattle.task_slots.specs.Look.{Look, Made, Nothing, Contended}
-use Rattle.task_slots.specs.Looking.{IsTried, EntryOf}
-use Rattle.task_slots.specs.Stepping.{SlotLooked}
+use Rattle.task_slots.specs.Common.{Look, Made, Nothing, Contended, IsTried, EntryOf, SlotLooked}
 use Rattle.task_slots.proofs.Steps.{phase_step}
 
 module _ (p : Plan) (n : ℕ) (there : n < length p.machines) where

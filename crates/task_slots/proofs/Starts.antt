@@ -1,27 +1,13 @@
 -- The start of a free task: each of its events may be tried, and looks at them one after the other.
 use Rattle.std.proofs.Common.{◌≡◌, ℕ, ◌+◌, ◌<◌, take, drop, get_or, true, false, ◌||◌, if◌then◌else◌, refl, sym, ◌∙◌, ap, subst, List, [], ◌∷◌, ◌++◌, length, map, Option, Some, None}
 use Rattle.std.specs.Prelude.{is_some, IfSome}
-use Rattle.std.proofs.lemmas.List.{take_more, take-append-drop}
-use Rattle.std.proofs.lemmas.Bool.{eq-eqb}
-use Rattle.std.proofs.lemmas.Option.{same_Some}
-use Rattle.bus_semantics.specs.declared.entries.Actor.{Actor}
-use Rattle.bus_semantics.specs.declared.entries.Actor.TheVariants.{Act}
-use Rattle.bus_semantics.specs.declared.entries.Stamped.{Stamped}
-use Rattle.bus_semantics.specs.declared.script.Mapping.{Mapping}
-use Rattle.bus_semantics.specs.Plan.{Plan, kind_of, runnable_of_event}
-use Rattle.bus_semantics.specs.Wanted.{Wanted, to_start}
-use Rattle.bus_semantics.specs.Objects.{object_of_kind, object_of, IsObject}
-use Rattle.bus_semantics.specs.Owners.{key_fits}
-use Rattle.bus_semantics.specs.Fitting.{wish_fits}
-use Rattle.bus_semantics.specs.Sound.{IsSound}
-use Rattle.bus_semantics.specs.Rest.{plain_key, option_list, gathered, start_try}
+use Rattle.bus_semantics.specs.Common.{take_more, take-append-drop, eq-eqb, same_Some, Plan, kind_of, runnable_of_event, Wanted, to_start, object_of_kind, object_of, IsObject, key_fits}
+use Rattle.bus_semantics.specs.Common.{wish_fits, IsSound, plain_key, option_list, gathered, start_try}
+use Rattle.bus_laws.specs.Common.{Actor, Act, Stamped, Mapping}
 use Rattle.bus_laws.proofs.Thinning.{option_test}
 use Rattle.port_objects.specs.Benches.{Told}
-use Rattle.task_slots.specs.Look.{Look, Made, Nothing, Contended}
-use Rattle.task_slots.specs.Slots.{waits}
-use Rattle.task_slots.specs.Looking.{IsTried, IsFree, looks_at, EntryOf, StartBy, Looked}
+use Rattle.task_slots.specs.Common.{Look, Made, Nothing, Contended, waits, IsTried, IsFree, looks_at, EntryOf, StartBy, Looked, may_be_mapped}
 use Rattle.task_slots.proofs.Onward.{looked_on, looked_as, made_more, lost_more, gathered_on, gathered_one}
-use Rattle.task_slots.specs.Ready.{may_be_mapped}
 use Rattle.task_slots.proofs.Facts.{event_known, started, key_is, start_fits}
 
 free_start : (event : ℕ) (o : Option ℕ) → IsFree o (to_start event)

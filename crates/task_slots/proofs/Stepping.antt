@@ -1,26 +1,11 @@
 -- An answer to what an activation asks: its entry fits and follows its program, and the activation goes on in its frame.
 use Rattle.std.proofs.Common.{◌≡◌, ◌⊎◌, inl, inr, ℕ, zero, suc, Bool, true, false, ◌&&◌, if◌then◌else◌, refl, sym, ◌∙◌, ap, subst, [], ◌∷◌, ◌++◌, Option, Some, None}
 use Rattle.std.specs.Prelude.{is_none, is_some, option_and_then, unwrap_or}
-use Rattle.std.proofs.lemmas.Bool.{and_from, false≢true}
-use Rattle.rte_value.specs.declared.kinds.ActKey.{ActKey}
-use Rattle.rte_value.specs.Values.{words_of}
-use Rattle.bus_semantics.specs.declared.entries.Actor.{Actor}
-use Rattle.bus_semantics.specs.declared.entries.Actor.TheVariants.{Act}
-use Rattle.bus_semantics.specs.declared.entries.Deed.{Deed}
+use Rattle.bus_semantics.specs.Common.{and_from, false≢true, ActKey, words_of, Plan, Runnable, server_of, Wanted, wanted_by, History, Past, last_started, runs, is_over, needs_event}
+use Rattle.bus_semantics.specs.Common.{started_before, note, noted, server_object, object_of, touched_by, wish_fits, answer_fits, activation_fits, fits, Answers, admission_allows, is_proper}
+use Rattle.bus_semantics.specs.Common.{starts_its_own, activation_of, wanted_in, next_wish, is_held_back, follows_program, next_of_activity, is_start, event_of}
+use Rattle.bus_laws.specs.Common.{Actor, Act, Deed, Entry, Stamped, Mapping}
 use Rattle.bus_semantics.specs.declared.entries.Deed.TheVariants as deed
-use Rattle.bus_semantics.specs.declared.entries.Entry.{Entry}
-use Rattle.bus_semantics.specs.declared.entries.Stamped.{Stamped}
-use Rattle.bus_semantics.specs.declared.script.Mapping.{Mapping}
-use Rattle.bus_semantics.specs.Plan.{Plan, Runnable, server_of}
-use Rattle.bus_semantics.specs.Wanted.{Wanted, wanted_by}
-use Rattle.bus_semantics.specs.History.{History, Past, last_started, runs, is_over, needs_event, started_before, note, noted}
-use Rattle.bus_semantics.specs.Objects.{server_object, object_of, touched_by}
-use Rattle.bus_semantics.specs.Fitting.{wish_fits, answer_fits, activation_fits, fits}
-use Rattle.bus_semantics.specs.Legal.{Answers, admission_allows}
-use Rattle.bus_semantics.specs.Locality.{is_proper, starts_its_own}
-use Rattle.bus_semantics.specs.Actor.{activation_of, wanted_in, next_wish, is_held_back, follows_program}
-use Rattle.bus_semantics.specs.Activations.{next_of_activity}
-use Rattle.bus_semantics.specs.Asked.{is_start, event_of}
 use Rattle.history_laws.specs.LookUps.{looked}
 use Rattle.history_laws.proofs.Keys.{begins}
 use Rattle.port_objects.specs.Freed as freed
@@ -28,10 +13,7 @@ use Rattle.task_machine.specs.declared.instr.TaskSet.{TaskSet}
 use Rattle.task_machine.specs.Standing.{Standing}
 use Rattle.task_machine.specs.Frames.{asks}
 use Rattle.task_generator.specs.Promise.{AsksAsPlanned}
-use Rattle.task_slots.specs.Ready.{is_answered, IsAsking, IsBegun}
-use Rattle.task_slots.specs.Standing.{StandsFor}
-use Rattle.task_slots.specs.Looking.{event_for, IsAlone, IsEntryOf, IsTried}
-use Rattle.task_slots.specs.Stepping.{Fed, noting_of, IsApart}
+use Rattle.task_slots.specs.Common.{is_answered, IsAsking, IsBegun, StandsFor, event_for, IsAlone, IsEntryOf, IsTried, Fed, noting_of, IsApart}
 use Rattle.task_slots.proofs.Until.{wants_still}
 use Rattle.task_slots.proofs.Histories.{entry_by, not_begun, owned, free_same, free_event, bound_event, wish_by, answer_follows, last_event}
 use Rattle.task_slots.proofs.Begun.{asked_asks, asked_is}

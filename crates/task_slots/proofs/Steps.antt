@@ -1,29 +1,12 @@
 -- The steps of slots: a start, an answer to the activation that goes on, a direct start, an answer to the direct activation, a phase.
 use Rattle.std.proofs.Common.{◌≡◌, inl, ℕ, ℤ, suc, zero, ◌+◌, ◌<◌, Bool, true, false, ◌&&◌, ◌||◌, ◌==◌, if◌then◌else◌, refl, sym, ◌∙◌, ap, subst, List, [], ◌∷◌, ◌++◌, length, Option, Some, None}
 use Rattle.std.specs.Prelude.{nat_lt, is_none, unwrap_or}
-use Rattle.std.specs.List.{list_all, list_any, slice_get}
-use Rattle.std.proofs.lemmas.Bool.{and_from, and_parts, eq-eqb, eqb-true, false≢true, or_left, or_right}
-use Rattle.std.proofs.lemmas.Option.{same_Some}
-use Rattle.rte_value.specs.declared.kinds.ActKey.{ActKey}
-use Rattle.rte_value.specs.Values.{words_of, same_key, same_number}
-use Rattle.bus_semantics.specs.declared.entries.Actor.TheVariants.{Machine, Act}
-use Rattle.bus_semantics.specs.declared.entries.Deed.{Deed}
+use Rattle.bus_semantics.specs.Common.{list_all, list_any, slice_get, and_from, and_parts, eq-eqb, eqb-true, false≢true, or_left, or_right, same_Some, ActKey, words_of, same_key}
+use Rattle.bus_semantics.specs.Common.{same_number, Plan, Runnable, caller_of, runnable_of_event, Wanted, to_start, to_move_on, to_end, wanted_by, History, Past, needs_event, started_before}
+use Rattle.bus_semantics.specs.Common.{is_over, is_end, note, runs, first_machine, object_of, touched_by, key_fits, own_point, wish_fits, answer_fits, activation_fits, fits, direct_key}
+use Rattle.bus_semantics.specs.Common.{accepted_point, asked_last, caller_has_asked, follows_program, Answers, is_proper, plain_key, IsSound, is_start, event_of}
+use Rattle.bus_laws.specs.Common.{Machine, Act, Deed, Entry, Stamped, Mapping}
 use Rattle.bus_semantics.specs.declared.entries.Deed.TheVariants as deed
-use Rattle.bus_semantics.specs.declared.entries.Entry.{Entry}
-use Rattle.bus_semantics.specs.declared.entries.Stamped.{Stamped}
-use Rattle.bus_semantics.specs.declared.script.Mapping.{Mapping}
-use Rattle.bus_semantics.specs.Plan.{Plan, Runnable, caller_of, runnable_of_event}
-use Rattle.bus_semantics.specs.Wanted.{Wanted, to_start, to_move_on, to_end, wanted_by}
-use Rattle.bus_semantics.specs.History.{History, Past, needs_event, started_before, is_over, is_end, note, runs}
-use Rattle.bus_semantics.specs.Objects.{first_machine, object_of, touched_by}
-use Rattle.bus_semantics.specs.Owners.{key_fits, own_point}
-use Rattle.bus_semantics.specs.Fitting.{wish_fits, answer_fits, activation_fits, fits}
-use Rattle.bus_semantics.specs.Actor.{direct_key, accepted_point, asked_last, caller_has_asked, follows_program}
-use Rattle.bus_semantics.specs.Legal.{Answers}
-use Rattle.bus_semantics.specs.Locality.{is_proper}
-use Rattle.bus_semantics.specs.Rest.{plain_key}
-use Rattle.bus_semantics.specs.Sound.{IsSound}
-use Rattle.bus_semantics.specs.Asked.{is_start, event_of}
 use Rattle.history_laws.specs.Wishes.{is_of_a_call}
 use Rattle.bus_laws.proofs.Thinning.{option_same, option_test}
 use Rattle.history_laws.proofs.Keys.{begins}
@@ -34,14 +17,12 @@ use Rattle.task_machine.specs.Frames.{Stands, IsMadeFor}
 use Rattle.task_generator.specs.Promise.{AsksAsPlanned}
 use Rattle.task_slots.specs.declared.slot.Slot.TheVariants as slot
 use Rattle.task_slots.specs.declared.slot.TaskSlot.{TaskSlot}
-use Rattle.task_slots.specs.declared.slot.Call.{Call}
-use Rattle.task_slots.specs.declared.slot.Activity.{Activity}
-use Rattle.task_slots.specs.declared.slot.Activity.TheVariants.{Free, Runs, Calls, Serves}
-use Rattle.task_slots.specs.Direct.{call_at, call_in, going_on, after_deed, after_inside}
-use Rattle.task_slots.specs.Slots.{starts, is_key_of, of_task}
-use Rattle.task_slots.specs.Ready.{may_be_mapped, is_answered, IsAsking, IsBegun, IsRunning, IsCalled, IsServing, IsActive, IsReadyTask}
-use Rattle.task_slots.specs.Standing.{TaskStands, TaskSlotStands}
-use Rattle.task_slots.specs.Looking.{event_for, IsEntryOf, IsTried, IsStartBy}
+use Rattle.task_slots.specs.Common.{Call, Activity, Free, Runs, Calls, Serves, call_at, call_in, is_key_of, may_be_mapped, is_answered, IsAsking, IsBegun, IsRunning, IsCalled, IsServing}
+use Rattle.task_slots.specs.Common.{IsActive, TaskStands, event_for, IsEntryOf, IsTried, IsStartBy}
+use Rattle.task_slots.specs.Direct.{going_on, after_deed, after_inside}
+use Rattle.task_slots.specs.Slots.{starts, of_task}
+use Rattle.task_slots.specs.Ready.{IsReadyTask}
+use Rattle.task_slots.specs.Standing.{TaskSlotStands}
 use Rattle.task_slots.specs.Stepping.{HasRoomOf, BegunBy, ServedBy, Heard, HeardInside, StepFollows, SlotStep}
 use Rattle.task_slots.proofs.Basics.{same_keys, key_same}
 use Rattle.task_slots.proofs.Until.{still_made}

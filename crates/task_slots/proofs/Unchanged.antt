@@ -1,18 +1,13 @@
 -- Looks of which nothing came and which are not counted: a bench tells the same after them, and no count of its work falls.
 use Rattle.std.proofs.Common.{◌≡◌, ◌≢◌, ℕ, suc, ◌+◌, ◌<◌, ◌≤◌, Bool, true, refl, sym, ◌∙◌, ap, subst, arith, List, [], ◌∷◌, ◌++◌, length, take, drop, length-drop, length-take, Option, Some, None}
-use Rattle.std.specs.List.{slice_get}
-use Rattle.std.proofs.lemmas.Bool.{false≢true}
-use Rattle.std.proofs.lemmas.List.{get_or-take, get_or-drop, take-take, take-append-drop}
+use Rattle.bus_semantics.specs.Common.{slice_get, false≢true, take-append-drop, get_or_from_slice_get, slice_get-get_or, slice_get_within, Plan, Try, gathered, start_try}
+use Rattle.std.proofs.lemmas.List.{get_or-take, get_or-drop, take-take}
 use mathlib.Core.Logic.{dite}
 use native.Mathlib.Decide.{ℕ_discrete}
-use Rattle.std.proofs.lemmas.Option.{get_or_from_slice_get, slice_get-get_or, slice_get_within}
-use Rattle.bus_semantics.specs.Plan.{Plan}
-use Rattle.bus_semantics.specs.Rest.{Try, gathered, start_try}
 use Rattle.port_objects.specs.declared.object.Object.{Object}
 use Rattle.port_objects.specs.Benches.{IsFurther, StampAfter, Told}
-use Rattle.task_slots.specs.Look.{Nothing}
-use Rattle.task_slots.specs.Looking.{AllHeld, ObjectsLooked, Looked}
-use Rattle.task_slots.specs.Waiting.{EventsHeld, NoneAwake}
+use Rattle.task_slots.specs.Common.{Nothing, AllHeld, ObjectsLooked, Looked, EventsHeld}
+use Rattle.task_slots.specs.Waiting.{NoneAwake}
 use Rattle.task_slots.proofs.Onward.{work_same, work_on, work_uncounted, next_same, next_still, all_on, looked_on, looked_as, gathered_on}
 
 -- ---- where a bench tells its objects

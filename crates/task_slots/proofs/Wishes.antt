@@ -1,32 +1,18 @@
 -- What activations ask: it may be tried; and until one is over there is always something.
 use Rattle.std.proofs.Common.{◌≡◌, ℕ, ℤ, Bool, true, false, ◌&&◌, ◌||◌, not, if◌then◌else◌, refl, sym, ◌∙◌, ap, subst, List, [], ◌∷◌, ◌++◌, Option, Some, None}
 use Rattle.std.specs.Prelude.{is_some, IfSome}
-use Rattle.std.specs.List.{list_all, list_any, slice_get}
-use Rattle.std.proofs.lemmas.Bool.{and_from, and_parts, false≢true}
-use Rattle.rte_value.specs.declared.kinds.ActKey.{ActKey}
-use Rattle.bus_semantics.specs.declared.entries.Actor.{Actor}
-use Rattle.bus_semantics.specs.declared.entries.Actor.TheVariants.{Act}
-use Rattle.bus_semantics.specs.declared.entries.Deed.{Deed}
+use Rattle.bus_semantics.specs.Common.{list_all, list_any, slice_get, and_from, and_parts, false≢true, ActKey, Plan, Runnable, runnable_of_event, server_of, disabling_of, Wanted, to_admit}
+use Rattle.bus_semantics.specs.Common.{to_ask, to_hear, to_take_result, to_end, wanted_by, is_over, server_object, served_by, object_of, IsObject, key_fits, serves_directly, wish_fits}
+use Rattle.bus_semantics.specs.Common.{next_of_activity, is_start, asks_its_own, event_of, IsSound, may_be_disabled}
+use Rattle.bus_laws.specs.Common.{Actor, Act, Deed, Mapping}
 use Rattle.bus_semantics.specs.declared.entries.Deed.TheVariants as deed
-use Rattle.bus_semantics.specs.declared.script.Mapping.{Mapping}
-use Rattle.bus_semantics.specs.Plan.{Plan, Runnable, runnable_of_event, server_of, disabling_of}
-use Rattle.bus_semantics.specs.Wanted.{Wanted, to_admit, to_ask, to_hear, to_take_result, to_end, wanted_by}
-use Rattle.bus_semantics.specs.History.{is_over}
-use Rattle.bus_semantics.specs.Objects.{server_object, served_by, object_of, IsObject}
-use Rattle.bus_semantics.specs.Owners.{key_fits, serves_directly}
-use Rattle.bus_semantics.specs.Fitting.{wish_fits}
-use Rattle.bus_semantics.specs.Activations.{next_of_activity}
-use Rattle.bus_semantics.specs.Asked.{is_start, asks_its_own, event_of}
-use Rattle.bus_semantics.specs.Sound.{IsSound}
 use Rattle.history_laws.specs.Followed.{IsActivation, Followed, AsksNext, HasJustAsked}
 use Rattle.history_laws.specs.Following.{followed_none, followed_more}
 use Rattle.history_laws.specs.Wishes.{is_of_a_call, is_the_end}
-use Rattle.bus_semantics.specs.SoundEvents.{may_be_disabled}
 use Rattle.bus_laws.proofs.OneEvent.{serves_invoked}
 use Rattle.history_laws.proofs.Lists.{all_more}
 use Rattle.history_laws.proofs.EventFacts.{undisabled}
-use Rattle.task_slots.specs.Ready.{is_answered, IsAsking}
-use Rattle.task_slots.specs.Looking.{IsFree, IsTried, looks_at}
+use Rattle.task_slots.specs.Common.{is_answered, IsAsking, IsFree, IsTried, looks_at}
 use Rattle.task_slots.proofs.Until.{wants_still, wants_further}
 
 last_of : {X : Type 0} (test : X → Bool) (xs : List X) (x : X) → list_all test (xs ++ x ∷ []) ≡ true → test x ≡ true

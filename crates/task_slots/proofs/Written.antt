@@ -1,7 +1,6 @@
 -- A look that wrote its entry down.
 use Rattle.std.proofs.Common.{◌≡◌, ◌<◌, ◌∙◌, ap, arith, List, [], ◌∷◌, ◌++◌, length, Some}
-use Rattle.std.specs.Option.{option_map_or}
-use Rattle.std.proofs.lemmas.List.{length-append}
+use Rattle.bus_semantics.specs.Common.{option_map_or, length-append}
 use Rattle.bus_semantics.specs.declared.entries.Stamped.{Stamped}
 use Rattle.port_objects.specs.declared.bench.Answered.TheVariants as answered
 use Rattle.port_objects.specs.declared.bench.Benched.TheVariants.{Done, Contended}

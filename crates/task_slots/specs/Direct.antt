@@ -1,11 +1,7 @@
 -- Direct calls (SWS_RTE: Rte_Call of an operation whose server runnable is not mapped to a task): which activation an accepted ask starts.
 use Rattle.std.specs.Prelude.{ℕ, if◌then◌else◌, Option, Some, None, option_map, option_and_then}
-use Rattle.rte_value.specs.declared.kinds.ActKey.{ActKey}
-use Rattle.bus_semantics.specs.declared.plan.ServerPlan.{ServerPlan}
-use Rattle.bus_semantics.specs.declared.entries.Deed.{Deed}
-use Rattle.bus_semantics.specs.Plan.{Plan, look, server_of}
-use Rattle.bus_semantics.specs.History.{is_over, is_end}
-use Rattle.bus_semantics.specs.Actor.{direct_key, accepted_point}
+use Rattle.bus_semantics.specs.Common.{ActKey, Plan, look, server_of, is_over, is_end, direct_key, accepted_point}
+use Rattle.bus_laws.specs.Common.{ServerPlan, Deed}
 use Rattle.task_slots.specs.declared.slot.Call.{Call}
 use Rattle.task_slots.specs.declared.slot.Activity.{Activity}
 use Rattle.task_slots.specs.declared.slot.Activity.TheVariants.{Free, Runs, Calls, Serves}

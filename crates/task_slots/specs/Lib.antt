@@ -7,3 +7,4 @@ pub mod Standing
 pub mod Looking
 pub mod Stepping
 pub mod Waiting
+pub mod Common

@@ -1,25 +1,10 @@
 -- What comes of looks at wishes over a bench, in their order: the entry of the first that may come, or that none may.
 use Rattle.std.specs.Prelude.{◌≡◌, ℕ, suc, List, [], ◌∷◌, ◌++◌, slice_get, Bool, true, false, ◌||◌, ◌==◌, if◌then◌else◌, Option, Some, None, unwrap_or, IfSome}
-use Rattle.std.specs.List.{list_any}
-use Rattle.rte_value.specs.Values.{same_number}
-use Rattle.bus_semantics.specs.declared.entries.Actor.{Actor}
-use Rattle.bus_semantics.specs.declared.entries.Actor.TheVariants.{Act}
-use Rattle.bus_semantics.specs.declared.entries.Deed.{Deed}
-use Rattle.bus_semantics.specs.declared.entries.Entry.{Entry}
-use Rattle.bus_semantics.specs.declared.entries.Stamped.{Stamped}
-use Rattle.bus_semantics.specs.Plan.{Plan, runnable_of_event}
-use Rattle.bus_semantics.specs.Wanted.{Wanted, to_start, wanted_by}
-use Rattle.bus_semantics.specs.History.{Noted}
-use Rattle.bus_semantics.specs.Fitting.{wish_fits, answer_fits}
-use Rattle.bus_semantics.specs.Objects.{object_of, IsObject}
-use Rattle.bus_semantics.specs.Rest.{Try, plain_key}
-use Rattle.bus_semantics.specs.Asked.{is_start, asks_its_own, event_of}
+use Rattle.bus_semantics.specs.Common.{list_any, same_number, Plan, runnable_of_event, Wanted, to_start, wanted_by, Noted, wish_fits, answer_fits, object_of, IsObject, Try, plain_key}
+use Rattle.bus_semantics.specs.Common.{is_start, asks_its_own, event_of}
+use Rattle.bus_laws.specs.Common.{Actor, Act, Deed, Entry, Stamped}
 use Rattle.port_objects.specs.declared.object.Object.{Object}
-use Rattle.port_objects.specs.Objects.{kept_of}
-use Rattle.port_objects.specs.Leading.{lead}
-use Rattle.port_objects.specs.Waking.{may_start_in}
-use Rattle.port_objects.specs.Freed.{is_free, IsUnconnected}
-use Rattle.port_objects.specs.Benches.{Work, IsFurther, StampAfter, MadeOn, Told}
+use Rattle.port_objects.specs.Common.{kept_of, lead, may_start_in, is_free, IsUnconnected, Work, IsFurther, StampAfter, MadeOn, Told}
 use Rattle.task_slots.specs.Look.{Look, Made, Nothing, Contended}
 
 -- ---- what may be tried

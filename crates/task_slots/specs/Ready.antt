@@ -1,15 +1,8 @@
 -- A slot that can step: its events are of a task, and each activation that runs in it was answered what it asked, and asks something.
 use Rattle.std.specs.Prelude.{◌≡◌, ◌<◌, ℕ, zero, ℤ, List, length, nat_lt, Bool, true, ◌&&◌, ◌==◌, is_some, Option, Some, None, slice_get}
-use Rattle.std.specs.List.{list_all}
-use Rattle.rte_value.specs.declared.value.Value.{Value}
-use Rattle.rte_value.specs.declared.kinds.ActKey.{ActKey}
-use Rattle.rte_value.specs.Values.{words_of}
+use Rattle.bus_semantics.specs.Common.{list_all, Value, ActKey, words_of, Plan, Runnable, runnable_of_event, server_of, caller_of, kind_of, key_fits, times_mapped, Wanted}
 use Rattle.bus_semantics.specs.declared.entries.Deed.{Deed}
 use Rattle.bus_semantics.specs.declared.entries.Deed.TheVariants as deed
-use Rattle.bus_semantics.specs.Plan.{Plan, Runnable, runnable_of_event, server_of, caller_of, kind_of}
-use Rattle.bus_semantics.specs.Owners.{key_fits}
-use Rattle.bus_semantics.specs.Sound.{times_mapped}
-use Rattle.bus_semantics.specs.Wanted.{Wanted}
 use Rattle.history_laws.specs.Followed.{Followed}
 use Rattle.task_machine.specs.declared.instr.TaskSet.{TaskSet}
 use Rattle.task_machine.specs.Standing.{Standing}

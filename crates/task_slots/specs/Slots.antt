@@ -1,15 +1,9 @@
 -- A slot of a core: a task with its events by position and what runs in it, or a mode machine (OS: task; SWS_RTE: mapping of RTEEvents to
 -- tasks, mode machine instance).
 use Rattle.std.specs.Prelude.{ℕ, List, [], ◌∷◌, map, Bool, false, ◌||◌, is_some, Option, Some, None}
-use Rattle.std.specs.List.{list_any}
-use Rattle.rte_value.specs.declared.kinds.ActKey.{ActKey}
-use Rattle.rte_value.specs.Values.{same_number, same_key}
+use Rattle.bus_semantics.specs.Common.{list_any, ActKey, same_number, same_key, Plan, kind_of, runnable_of_event, caller_of, Wanted, to_start, to_move_on, count, object_of_kind, Try}
+use Rattle.bus_semantics.specs.Common.{option_list, gathered, start_try}
 use Rattle.bus_semantics.specs.declared.entries.Actor.TheVariants.{Machine, Act}
-use Rattle.bus_semantics.specs.Plan.{Plan, kind_of, runnable_of_event, caller_of}
-use Rattle.bus_semantics.specs.Wanted.{Wanted, to_start, to_move_on}
-use Rattle.bus_semantics.specs.History.{count}
-use Rattle.bus_semantics.specs.Objects.{object_of_kind}
-use Rattle.bus_semantics.specs.Rest.{Try, option_list, gathered, start_try}
 use Rattle.task_machine.specs.declared.instr.TaskSet.{TaskSet}
 use Rattle.task_machine.specs.Frames.{code_of}
 use Rattle.task_machine.specs.Machine.{wanted_at}

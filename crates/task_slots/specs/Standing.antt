@@ -1,13 +1,8 @@
 -- A slot stands for a history: each activation that runs in its task has a frame that stands for it; a caller is held back while its direct
 -- activation has not ended. Histories stand the newest first.
 use Rattle.std.specs.Prelude.{◌≡◌, ℕ, List, true, false, Option, Some, None}
-use Rattle.rte_value.specs.declared.value.Value.{Value}
-use Rattle.rte_value.specs.declared.kinds.ActKey.{ActKey}
-use Rattle.rte_value.specs.Values.{words_of}
+use Rattle.bus_semantics.specs.Common.{Value, ActKey, words_of, Plan, History, runs, Activation, activation_of, direct_key, asked_last, ended_since, is_held_back}
 use Rattle.bus_semantics.specs.declared.entries.Deed.TheVariants as deed
-use Rattle.bus_semantics.specs.Plan.{Plan}
-use Rattle.bus_semantics.specs.History.{History, runs}
-use Rattle.bus_semantics.specs.Actor.{Activation, activation_of, direct_key, asked_last, ended_since, is_held_back}
 use Rattle.task_machine.specs.declared.instr.TaskSet.{TaskSet}
 use Rattle.task_machine.specs.Standing.{Standing}
 use Rattle.task_machine.specs.Frames.{Stands}

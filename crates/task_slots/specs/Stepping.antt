@@ -1,16 +1,7 @@
 -- What comes of a look at a slot: one entry, and what the slot stands for then; or nothing.
 use Rattle.std.specs.Prelude.{◌≡◌, ◌⊎◌, ℕ, List, [], ◌∷◌, ◌++◌, true, None}
-use Rattle.rte_value.specs.declared.kinds.ActKey.{ActKey}
-use Rattle.bus_semantics.specs.declared.entries.Actor.{Actor}
-use Rattle.bus_semantics.specs.declared.entries.Actor.TheVariants.{Machine, Act}
-use Rattle.bus_semantics.specs.declared.entries.Deed.{Deed}
-use Rattle.bus_semantics.specs.declared.entries.Stamped.{Stamped}
-use Rattle.bus_semantics.specs.Plan.{Plan}
-use Rattle.bus_semantics.specs.History.{History, Noted, note, noted}
-use Rattle.bus_semantics.specs.Objects.{touched_by}
-use Rattle.bus_semantics.specs.Actor.{follows_program}
-use Rattle.bus_semantics.specs.Legal.{Answers}
-use Rattle.bus_semantics.specs.Locality.{is_proper}
+use Rattle.bus_semantics.specs.Common.{ActKey, Plan, History, Noted, note, noted, touched_by, follows_program, Answers, is_proper}
+use Rattle.bus_laws.specs.Common.{Actor, Machine, Act, Deed, Stamped}
 use Rattle.task_machine.specs.declared.instr.TaskSet.{TaskSet}
 use Rattle.task_machine.specs.Standing.{Standing}
 use Rattle.task_machine.specs.Frames.{Stands}

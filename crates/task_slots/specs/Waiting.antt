@@ -1,13 +1,8 @@
 -- Slots that may sleep: a free task of whose events none may start, a machine whose next phase is held (SWS_RTE: mode machine instance), and
 -- an activation that waits at an exclusive area (SWS_RTE: Rte_Enter) or for an answer (SWS_RTE: Rte_Call).
 use Rattle.std.specs.Prelude.{◌≡◌, ◌<◌, ◌≤◌, ◌+◌, ◌&&◌, ℕ, zero, suc, List, [], ◌∷◌, length, Bool, true, false, if◌then◌else◌, Option, Some, None, slice_get, slice_index_or}
-use Rattle.rte_value.specs.declared.kinds.ActKey.{ActKey}
+use Rattle.bus_semantics.specs.Common.{ActKey, Plan, to_enter, to_hear, to_move_on, object_of, wish_fits, Try, gathered, start_try}
 use Rattle.bus_semantics.specs.declared.entries.Actor.TheVariants.{Act, Machine}
-use Rattle.bus_semantics.specs.Plan.{Plan}
-use Rattle.bus_semantics.specs.Wanted.{to_enter, to_hear, to_move_on}
-use Rattle.bus_semantics.specs.Objects.{object_of}
-use Rattle.bus_semantics.specs.Fitting.{wish_fits}
-use Rattle.bus_semantics.specs.Rest.{Try, gathered, start_try}
 use Rattle.port_objects.specs.declared.object.Object.{Object}
 use Rattle.task_machine.specs.declared.instr.TaskSet.{TaskSet}
 use Rattle.task_machine.specs.Standing.{Standing}

@@ -1,16 +1,8 @@
 //! What activations ask.
 
 ghost use Rattle.std.specs.Prelude.{◌≡◌, ℕ, ℤ, List, [], ◌∷◌, ◌++◌, true, false, Some, slice_get};
-ghost use Rattle.rte_value.specs.declared.kinds.ActKey.{ActKey};
-ghost use Rattle.bus_semantics.specs.declared.entries.Actor.TheVariants.{Act};
-ghost use Rattle.bus_semantics.specs.declared.entries.Deed.{Deed};
-ghost use Rattle.bus_semantics.specs.declared.script.Mapping.{Mapping};
-ghost use Rattle.bus_semantics.specs.Plan.{Plan, Runnable, runnable_of_event};
-ghost use Rattle.bus_semantics.specs.Wanted.{Wanted, to_end, wanted_by};
-ghost use Rattle.bus_semantics.specs.History.{is_over};
-ghost use Rattle.bus_semantics.specs.Owners.{key_fits, serves_directly};
-ghost use Rattle.bus_semantics.specs.Asked.{is_start, event_of};
-ghost use Rattle.bus_semantics.specs.Sound.{IsSound};
+ghost use Rattle.bus_semantics.specs.Common.{ActKey, Plan, Runnable, runnable_of_event, Wanted, to_end, wanted_by, is_over, key_fits, serves_directly, is_start, event_of, IsSound};
+ghost use Rattle.bus_laws.specs.Common.{Act, Deed, Mapping};
 ghost use Rattle.history_laws.specs.Wishes.{is_of_a_call};
 ghost use Rattle.task_slots.specs.Ready.{is_answered, IsAsking};
 ghost use Rattle.task_slots.specs.Looking.{IsTried};

@@ -1,8 +1,7 @@
 //! Direct calls.
 
 ghost use Rattle.std.specs.Prelude.{◌≡◌};
-ghost use Rattle.bus_semantics.specs.Plan.{plan_of};
-ghost use Rattle.bus_semantics.specs.History.{is_over};
+ghost use Rattle.bus_semantics.specs.Common.{plan_of, is_over};
 ghost use Rattle.task_slots.specs.Direct.{call_at, call_in, after_deed, after_inside};
 
 use crate::slot::{Activity, Call};

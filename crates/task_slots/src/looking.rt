@@ -1,10 +1,8 @@
 //! A look at a slot.
 
 ghost use Rattle.std.specs.Prelude.{◌≡◌, ◌<◌, length};
-ghost use Rattle.std.specs.Vec.{vec_capacity};
+ghost use Rattle.bus_semantics.specs.Common.{vec_capacity, plan_of, IsSound};
 ghost use Rattle.bus_semantics.specs.declared.script.Mapping.{Mapping};
-ghost use Rattle.bus_semantics.specs.Plan.{plan_of};
-ghost use Rattle.bus_semantics.specs.Sound.{IsSound};
 ghost use Rattle.task_generator.specs.Promise.{AsksAsPlanned};
 ghost use Rattle.task_slots.specs.declared.slot.Slot.TheVariants as slots;
 ghost use Rattle.task_slots.specs.Slots.{task_tries, slot_tries, events_of_slot};

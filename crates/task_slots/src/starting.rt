@@ -1,14 +1,8 @@
 //! The start of a free task.
 
 ghost use Rattle.std.specs.Prelude.{◌≡◌, ◌<◌, ◌∷◌, [], true, length, nat_lt, if◌then◌else◌, Some};
-ghost use Rattle.std.specs.List.{list_all};
-ghost use Rattle.std.specs.Vec.{vec_capacity};
-ghost use Rattle.rte_value.specs.declared.kinds.ActKey.{ActKey};
-ghost use Rattle.bus_semantics.specs.declared.entries.Actor.TheVariants.{Act};
-ghost use Rattle.bus_semantics.specs.declared.script.Mapping.{Mapping};
-ghost use Rattle.bus_semantics.specs.Plan.{plan_of, runnable_of_event};
-ghost use Rattle.bus_semantics.specs.Rest.{gathered, start_try};
-ghost use Rattle.bus_semantics.specs.Sound.{IsSound};
+ghost use Rattle.bus_semantics.specs.Common.{list_all, vec_capacity, ActKey, plan_of, runnable_of_event, gathered, start_try, IsSound};
+ghost use Rattle.bus_laws.specs.Common.{Act, Mapping};
 ghost use Rattle.task_machine.specs.Frames.{IsMadeFor};
 ghost use Rattle.task_slots.specs.declared.slot.Slot.TheVariants as slots;
 ghost use Rattle.task_slots.specs.declared.slot.Activity.TheVariants.{Free};

@@ -1,10 +1,7 @@
 //! One wish, tried over a bench.
 
 ghost use Rattle.std.specs.Prelude.{◌≡◌, ◌<◌, ◌∷◌, [], None, length};
-ghost use Rattle.std.specs.Vec.{vec_capacity};
-ghost use Rattle.bus_semantics.specs.Plan.{plan_of};
-ghost use Rattle.bus_semantics.specs.Wanted.{wanted_of};
-ghost use Rattle.bus_semantics.specs.Objects.{object_of};
+ghost use Rattle.bus_semantics.specs.Common.{vec_capacity, plan_of, wanted_of, object_of};
 ghost use Rattle.task_slots.specs.Look.{IsWrittenLook, look_of};
 ghost use Rattle.task_slots.specs.Looking.{IsTried, EntryOf, Looked, looks_at};
 

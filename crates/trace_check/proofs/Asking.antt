@@ -1,19 +1,12 @@
 -- What actors ask for along a trace.
 use Rattle.std.proofs.Common.{◌≡◌, ℕ, true, false, not, ◌&&◌, None, Some, refl, sym, ap, ◌∙◌, subst}
 use Rattle.std.specs.Prelude.{unwrap_or}
-use Rattle.std.proofs.lemmas.Bool.{and_parts, and_from, false≢true}
-use Rattle.rte_value.specs.declared.kinds.ActKey.{ActKey}
-use Rattle.rte_value.specs.Values.{same_number}
+use Rattle.bus_semantics.specs.Common.{and_parts, and_from, false≢true, ActKey, same_number, Plan, runnable_of_event, Wanted, to_admit, to_end, to_move_on, to_start, wanted_by, History}
+use Rattle.bus_semantics.specs.Common.{runs, wish_fits, caller_has_asked, follows_program, is_held_back, may_start, event_of}
 use Rattle.bus_semantics.specs.declared.entries.Actor.{Actor}
 use Rattle.bus_semantics.specs.declared.entries.Actor.TheVariants.{Env, Machine, Act}
 use Rattle.bus_semantics.specs.declared.entries.Deed.{Deed}
 use Rattle.bus_semantics.specs.declared.entries.Deed.TheVariants as deed
-use Rattle.bus_semantics.specs.Plan.{Plan, runnable_of_event}
-use Rattle.bus_semantics.specs.Wanted.{Wanted, to_admit, to_end, to_move_on, to_start, wanted_by}
-use Rattle.bus_semantics.specs.History.{History, runs}
-use Rattle.bus_semantics.specs.Fitting.{wish_fits}
-use Rattle.bus_semantics.specs.Actor.{caller_has_asked, follows_program, is_held_back, may_start}
-use Rattle.bus_semantics.specs.Asked.{event_of}
 use Rattle.trace_objects.specs.Going.{Asks, by_itself, by_program}
 use Rattle.trace_walks.specs.Walking.{IsWanted, MayBegin}
 

@@ -1,7 +1,6 @@
 -- How far the check of a legal trace has come, line by line.
 use Rattle.std.proofs.Common.{◌≡◌, ℕ, ◌+◌, ◌<◌, ◌++◌, length, codes, refl, ap, ◌∙◌, length-append, arith}
-use Rattle.bus_semantics.specs.Run.{Session, made, run_begins, run_closes, idle, unsettled}
-use Rattle.bus_semantics.specs.Spelling.{Letters, item_text}
+use Rattle.bus_semantics.specs.Common.{Session, made, run_begins, run_closes, idle, unsettled, Letters, item_text}
 use Rattle.trace_reading.specs.Reads.{ItemsHaveOneLine, Reads}
 use Rattle.trace_reading.specs.declared.reading.LineRead.{LineRead}
 use Rattle.trace_reading.specs.declared.reading.LineRead.TheVariants as read

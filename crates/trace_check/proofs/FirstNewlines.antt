@@ -1,7 +1,6 @@
 -- A text at its first newline.
 use Rattle.std.proofs.Common.{◌≡◌, ℕ, suc, ◌+◌, ◌<◌, ◌≤◌, Bool, true, false, not, ◌&&◌, cond, ◌==◌, List, [], ◌∷◌, length, take, refl, sym, ap, ◌∙◌, subst, Some, None, nat_lt, arith}
-use Rattle.std.proofs.lemmas.Bool.{and_from, eqb-true, ltb-true, ltb-false}
-use Rattle.std.specs.List.{position, position_or_len}
+use Rattle.bus_semantics.specs.Common.{and_from, eqb-true, ltb-true, ltb-false, position, position_or_len}
 use Rattle.trace_check.specs.FirstLines.{Ends, is_unbroken}
 
 abbrev place : List ℕ → ℕ

@@ -1,15 +1,11 @@
 -- The check after an item.
 use Rattle.std.proofs.Common.{◌≡◌, ℕ, suc, min, true, false, not, ◌&&◌, if◌then◌else◌, List, [], ◌∷◌, ◌++◌, Some, None, refl, inr, sym, ap, ◌∙◌, subst, ◌≤◌, ◌==◌, eq-eqb, arith}
-use Rattle.std.proofs.lemmas.Bool.{and_from, eqb-true, false≢true, le-leb, leb-true}
-use Rattle.std.proofs.lemmas.List.{append-nil, append_cancel_left}
+use Rattle.bus_semantics.specs.Common.{and_from, eqb-true, false≢true, le-leb, leb-true, append-nil, IsLegal, wanted_by, fits, is_environment, Closing, Ordered, Session, a_call, unsettled}
+use Rattle.bus_semantics.specs.Common.{made, run_begins, run_closes, Holds, IsBeginningOf, IsSessionOf, history_of, is_inside, is_placed, made_in_line, orders_of, orders_of_script}
+use Rattle.std.proofs.lemmas.List.{append_cancel_left}
 use Rattle.bus_semantics.specs.declared.script.Line.{Line}
 use Rattle.bus_semantics.specs.declared.entries.Actor.{Actor}
 use Rattle.bus_semantics.specs.declared.entries.Entry.{Entry}
-use Rattle.bus_semantics.specs.Legal.{IsLegal}
-use Rattle.bus_semantics.specs.Wanted.{wanted_by}
-use Rattle.bus_semantics.specs.Fitting.{fits}
-use Rattle.bus_semantics.specs.History.{is_environment}
-use Rattle.bus_semantics.specs.Run.{Closing, Ordered, Session, a_call, unsettled, made, run_begins, run_closes, Holds, IsBeginningOf, IsSessionOf, history_of, is_inside, is_placed, made_in_line, orders_of, orders_of_script}
 use Rattle.trace_reading.specs.Refusals.{IsRefused}
 use Rattle.trace_check.specs.declared.rules.Rules.{Rules}
 use Rattle.trace_check.specs.declared.bus_state.BusState.{BusState}

@@ -1,11 +1,8 @@
 -- A text that begins with a line has it as its first one.
 use Rattle.std.proofs.Common.{◌≡◌, true, not, ◌==◌, [], ◌++◌, codes, refl, inl, inr, sym, ap, ◌∙◌, subst, append_assoc}
-use Rattle.std.proofs.lemmas.Bool.{and_parts, false≢true}
-use Rattle.std.proofs.lemmas.List.{append-nil}
-use Rattle.std.proofs.lemmas.List.Folds.{list_all-append}
+use Rattle.bus_semantics.specs.Common.{and_parts, false≢true, append-nil, list_all-append, Letters, header}
 use Rattle.bus_semantics.specs.declared.version.Version.{Version}
 use Rattle.bus_semantics.specs.declared.version.Version.TheVariants.{One, Two}
-use Rattle.bus_semantics.specs.Spelling.{Letters, header}
 use Rattle.trace_reading.proofs.Cuts.{cut}
 use Rattle.trace_reading.specs.Reads.{IsOneLine}
 use Rattle.trace_check.specs.FirstLines.{Ends, IsFirstLine, is_unbroken}

@@ -1,22 +1,14 @@
 -- An entry that is made along a legal history.
 use Rattle.std.proofs.Common.{◌≡◌, Bool, true, false, not, if◌then◌else◌, Option, Some, None, List, [], ◌∷◌, refl, sym, subst, ℕ}
 use Rattle.std.specs.Prelude.{option_and_then, unwrap_or}
-use Rattle.std.proofs.lemmas.Bool.{and_parts, false≢true}
-use Rattle.rte_value.specs.declared.kinds.ActKey.{ActKey}
+use Rattle.bus_semantics.specs.Common.{and_parts, false≢true, ActKey, Plan, Wanted, wanted_by, History, last_started, needs_event, note, runs, fits, activation_of, follows_program}
+use Rattle.bus_semantics.specs.Common.{is_held_back, wanted_in, is_this, starts_or_goes_on, IsLegal, broken_clause, none_runs, Session, IsLegalRun, history_of, made, run_begins, run_closes}
+use Rattle.bus_semantics.specs.Common.{IsSound}
 use Rattle.bus_semantics.specs.declared.entries.Actor.TheVariants.{Act}
 use Rattle.bus_semantics.specs.declared.entries.Deed.{Deed}
 use Rattle.bus_semantics.specs.declared.entries.Deed.TheVariants as deed
 use Rattle.bus_semantics.specs.declared.entries.Entry.{Entry}
 use Rattle.bus_semantics.specs.declared.script.Mapping.{Mapping}
-use Rattle.bus_semantics.specs.Plan.{Plan}
-use Rattle.bus_semantics.specs.Wanted.{Wanted, wanted_by}
-use Rattle.bus_semantics.specs.History.{History, last_started, needs_event, note, runs}
-use Rattle.bus_semantics.specs.Fitting.{fits}
-use Rattle.bus_semantics.specs.Actor.{activation_of, follows_program, is_held_back, wanted_in, is_this, starts_or_goes_on}
-use Rattle.bus_semantics.specs.Legal.{IsLegal, broken_clause}
-use Rattle.bus_semantics.specs.Rest.{none_runs}
-use Rattle.bus_semantics.specs.Run.{Session, IsLegalRun, history_of, made, run_begins, run_closes}
-use Rattle.bus_semantics.specs.Sound.{IsSound}
 use Rattle.trace_reading.proofs.Clauses.{unbroken}
 use Rattle.port_objects.specs.declared.object.Object.{Object}
 use Rattle.port_objects.specs.Objects.{ArePlans}

@@ -1,12 +1,9 @@
 -- Taking a call, and lines that ask for nothing.
 use Rattle.std.proofs.Common.{◌≡◌, ℕ, zero, suc, Bool, true, false, ◌==◌, List, [], ◌∷◌, ◌++◌, replicate, refl, sym, ap, ◌∙◌}
-use Rattle.std.specs.List.{list_all}
-use Rattle.std.proofs.lemmas.Bool.{and_parts, and_from, eqb-true, false≢true}
+use Rattle.bus_semantics.specs.Common.{list_all, and_parts, and_from, eqb-true, false≢true, Wanted, to_tick, wanted_of, same_wanted, Ordered, a_call, orders_of_script}
 use Rattle.bus_semantics.specs.declared.script.Line.{Line}
 use Rattle.bus_semantics.specs.declared.script.Line.TheVariants as line
 use Rattle.bus_semantics.specs.declared.entries.Wish.{Wish}
-use Rattle.bus_semantics.specs.Wanted.{Wanted, to_tick, wanted_of, same_wanted}
-use Rattle.bus_semantics.specs.Run.{Ordered, a_call, orders_of_script}
 use Rattle.bus_semantics.proofs.SameWanted.{same_wanted-Decides}
 use Rattle.trace_check.specs.Orders.{is_nothing, left_of}
 

@@ -1,12 +1,8 @@
 -- How far the check has come, line by line.
 use Rattle.std.proofs.Common.{◌≡◌, ◌≢◌, ◌⊎◌, ℕ, suc, ◌+◌, ◌<◌, ◌==◌, true, false, [], ◌∷◌, ◌++◌, length, codes, refl, inl, inr, sym, ap, ◌∙◌, subst, append_assoc, length-append, arith}
-use Rattle.std.specs.List.{list_all}
-use Rattle.std.proofs.lemmas.Bool.{and_from, false≢true}
-use Rattle.std.proofs.lemmas.List.{append-nil}
+use Rattle.bus_semantics.specs.Common.{list_all, and_from, false≢true, append-nil, IsReadingOf, item_fits, Item, Session, IsSessionOf, made, run_begins, run_closes, idle, unsettled, Letters}
+use Rattle.bus_semantics.specs.Common.{header, item_text, spelling_of}
 use Rattle.bus_semantics.specs.declared.version.Version.{Version}
-use Rattle.bus_semantics.specs.Reading.{IsReadingOf, item_fits}
-use Rattle.bus_semantics.specs.Run.{Item, Session, IsSessionOf, made, run_begins, run_closes, idle, unsettled}
-use Rattle.bus_semantics.specs.Spelling.{Letters, header, item_text, spelling_of}
 use Rattle.trace_reading.specs.declared.checked.Checked.TheVariants.{Legal, BadLine, Illegal}
 use Rattle.trace_reading.specs.Verdicts.{GoesOn}
 use Rattle.trace_reading.specs.Reads.{ItemsHaveOneLine, Reads}

@@ -1,12 +1,10 @@
 -- An item and the order of a script.
 use Rattle.std.proofs.Common.{◌≡◌, Bool, true, false, not, if◌then◌else◌, List, [], ◌∷◌, ◌++◌, sym, ap, ◌∙◌, subst, append_assoc}
-use Rattle.std.proofs.lemmas.Bool.{and_from}
+use Rattle.bus_semantics.specs.Common.{and_from, wanted_by, is_environment, Ordered, Session, a_call, a_run, made, run_begins, IsBeginningOf, is_inside, is_placed, orders_of}
+use Rattle.bus_semantics.specs.Common.{orders_of_script}
 use Rattle.std.proofs.lemmas.List.{append_cancel_left}
 use Rattle.bus_semantics.specs.declared.script.Line.{Line}
 use Rattle.bus_semantics.specs.declared.entries.Entry.{Entry}
-use Rattle.bus_semantics.specs.Wanted.{wanted_by}
-use Rattle.bus_semantics.specs.History.{is_environment}
-use Rattle.bus_semantics.specs.Run.{Ordered, Session, a_call, a_run, made, run_begins, IsBeginningOf, is_inside, is_placed, orders_of, orders_of_script}
 use Rattle.trace_check.specs.Orders.{Takes}
 use Rattle.trace_check.specs.Order.{Leaves, TakesItem}
 

@@ -4,8 +4,7 @@ use Rattle.std.specs.Prelude.{◌↔◌, IfOk}
 use Rattle.bus_semantics.specs.declared.script.Line.{Line}
 use Rattle.bus_semantics.specs.declared.script.Mapping.{Mapping}
 use Rattle.bus_semantics.specs.declared.version.Version.{Version}
-use Rattle.bus_semantics.specs.Plan.{Plan}
-use Rattle.bus_semantics.specs.Spelling.{Letters, header}
+use Rattle.bus_semantics.specs.Common.{Plan, Letters, header}
 use Rattle.trace_reading.specs.declared.checked.Checked.{Checked}
 use Rattle.trace_reading.specs.declared.checked.Checked.TheVariants.{Legal}
 use Rattle.trace_reading.specs.Verdicts.{HasNoHeader, IsLegalTrace, IsVerdict}

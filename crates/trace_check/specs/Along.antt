@@ -2,12 +2,7 @@
 use Rattle.std.specs.Prelude.{◌≡◌, ℕ, ◌∷◌, Bool, true, false, Option, None}
 use Rattle.bus_semantics.specs.declared.script.Mapping.{Mapping}
 use Rattle.bus_semantics.specs.declared.entries.Entry.{Entry}
-use Rattle.bus_semantics.specs.Plan.{Plan, plan_of}
-use Rattle.bus_semantics.specs.History.{History}
-use Rattle.bus_semantics.specs.Actor.{follows_program}
-use Rattle.bus_semantics.specs.Legal.{IsLegal, broken_clause}
-use Rattle.bus_semantics.specs.Rest.{IsIdle}
-use Rattle.bus_semantics.specs.Sound.{IsSound}
+use Rattle.bus_semantics.specs.Common.{Plan, plan_of, History, follows_program, IsLegal, broken_clause, IsIdle, IsSound}
 use Rattle.port_objects.specs.Objects.{ArePlans}
 use Rattle.task_machine.specs.declared.instr.TaskSet.{TaskSet}
 use Rattle.task_generator.specs.Promise.{AsksAsPlanned}

@@ -1,8 +1,6 @@
 -- What the check keeps along a trace, what it stands for after a session, and what it answers to an item. Sessions stand the newest first.
 use Rattle.std.specs.Prelude.{◌≡◌, ℕ, min, ◌∷◌, true}
-use Rattle.bus_semantics.specs.Plan.{Plan}
-use Rattle.bus_semantics.specs.Reading.{item_fits}
-use Rattle.bus_semantics.specs.Run.{Item, Session, IsLegalRun, history_of, idle, is_inside, made, made_in_line, run_begins, run_closes, unsettled}
+use Rattle.bus_semantics.specs.Common.{Plan, item_fits, Item, Session, IsLegalRun, history_of, idle, is_inside, made, made_in_line, run_begins, run_closes, unsettled}
 use Rattle.trace_reading.specs.Refusals.{IsRefused}
 use Rattle.trace_reading.specs.declared.reading.LineRead.{LineRead}
 use Rattle.trace_reading.specs.declared.reading.LineRead.TheVariants as read

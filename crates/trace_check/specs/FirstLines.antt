@@ -1,8 +1,7 @@
 -- The first line of a text, which is this project's own.
 use Rattle.std.specs.Prelude.{◌≡◌, ◌==◌, ◌++◌, ◌⊎◌, [], codes, not, true, Bool, Option, Some, None}
-use Rattle.std.specs.List.{list_all}
+use Rattle.bus_semantics.specs.Common.{list_all, Letters, header}
 use Rattle.bus_semantics.specs.declared.version.Version.{Version}
-use Rattle.bus_semantics.specs.Spelling.{Letters, header}
 
 -- without a newline
 abbrev pub is_unbroken : Letters → Bool

@@ -2,12 +2,7 @@
 use Rattle.std.specs.Prelude.{◌≡◌, ◌∷◌, true, unwrap_or}
 use Rattle.bus_semantics.specs.declared.entries.Actor.{Actor}
 use Rattle.bus_semantics.specs.declared.entries.Entry.{Entry}
-use Rattle.bus_semantics.specs.Wanted.{Wanted, wanted_by}
-use Rattle.bus_semantics.specs.Asked.{event_of}
-use Rattle.bus_semantics.specs.History.{History}
-use Rattle.bus_semantics.specs.Fitting.{fits}
-use Rattle.bus_semantics.specs.Legal.{IsLegal}
-use Rattle.bus_semantics.specs.Spelling.{Letters}
+use Rattle.bus_semantics.specs.Common.{Wanted, wanted_by, event_of, History, fits, IsLegal, Letters}
 use Rattle.port_objects.specs.Objects.{ArePlans}
 use Rattle.trace_objects.specs.Going.{Asks}
 use Rattle.trace_objects.specs.Standing.{ObjectsStand}

@@ -1,8 +1,7 @@
 -- How far the check has come in a trace, and its verdict. Sessions stand the newest first.
 use Rattle.std.specs.Prelude.{◌≡◌, ℕ}
 use Rattle.bus_semantics.specs.declared.version.Version.{Version}
-use Rattle.bus_semantics.specs.Run.{Session}
-use Rattle.bus_semantics.specs.Spelling.{Letters}
+use Rattle.bus_semantics.specs.Common.{Session, Letters}
 use Rattle.trace_reading.specs.declared.checked.Checked.{Checked}
 use Rattle.trace_reading.specs.Verdicts.{GoesOn, IsVerdict, line_after}
 use Rattle.trace_check.specs.declared.rules.Rules.{Rules}

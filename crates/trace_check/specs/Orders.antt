@@ -2,8 +2,7 @@
 use Rattle.std.specs.Prelude.{◌≡◌, ◌==◌, ℕ, List, [], ◌∷◌, ◌++◌, replicate, Bool, true, false}
 use Rattle.bus_semantics.specs.declared.script.Line.{Line}
 use Rattle.bus_semantics.specs.declared.script.Line.TheVariants as line
-use Rattle.bus_semantics.specs.Wanted.{to_tick}
-use Rattle.bus_semantics.specs.Run.{Ordered, a_call, orders_of_script}
+use Rattle.bus_semantics.specs.Common.{to_tick, Ordered, a_call, orders_of_script}
 
 -- so many ticks, and then these lines
 abbrev pub left_of : (ticks : ℕ) → List Line → List Ordered

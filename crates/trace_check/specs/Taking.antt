@@ -1,10 +1,7 @@
 -- The check along a trace that is legal so far, line by line. Sessions stand the newest first.
 use Rattle.std.specs.Prelude.{◌≡◌, ◌∷◌, ◌++◌, true}
 use Rattle.bus_semantics.specs.declared.entries.Actor.{Actor}
-use Rattle.bus_semantics.specs.Wanted.{Wanted}
-use Rattle.bus_semantics.specs.Reading.{item_fits}
-use Rattle.bus_semantics.specs.Run.{Item, Session, history_of}
-use Rattle.bus_semantics.specs.Spelling.{Letters, item_text}
+use Rattle.bus_semantics.specs.Common.{Wanted, item_fits, Item, Session, history_of, Letters, item_text}
 use Rattle.trace_objects.specs.Going.{Asks}
 use Rattle.trace_check.specs.declared.rules.Rules.{Rules}
 use Rattle.trace_check.specs.declared.check.Check.{Check}

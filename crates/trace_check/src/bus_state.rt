@@ -1,14 +1,8 @@
 //! A bus along a trace.
 
 ghost use Rattle.std.specs.Prelude.{IfOk, IfSome, [], ◌≡◌, true, Some};
-ghost use Rattle.bus_semantics.specs.Actor.{follows_program};
-ghost use Rattle.bus_semantics.specs.Owners.{key_fits};
-ghost use Rattle.bus_semantics.specs.Plan.{Plan, plan_of};
+ghost use Rattle.bus_semantics.specs.Common.{follows_program, key_fits, Plan, plan_of, Wanted, wanted_of, fits, History, IsLegal};
 ghost use Rattle.task_machine.specs.declared.instr.TaskSet.{TaskSet};
-ghost use Rattle.bus_semantics.specs.Wanted.{Wanted, wanted_of};
-ghost use Rattle.bus_semantics.specs.Fitting.{fits};
-ghost use Rattle.bus_semantics.specs.History.{History};
-ghost use Rattle.bus_semantics.specs.Legal.{IsLegal};
 ghost use Rattle.task_machine.specs.Frames.{wanted_in};
 ghost use Rattle.task_generator.specs.Promise.{AsksAsPlanned};
 ghost use Rattle.trace_objects.specs.Going.{Asks};

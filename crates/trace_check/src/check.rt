@@ -2,12 +2,8 @@
 
 ghost use Rattle.std.specs.Prelude.{◌≡◌, ◌==◌, ◌&&◌, [], ℕ, if◌then◌else◌, suc, min, true, IfOk, IsTrue, ◌↔◌, false};
 ghost use Rattle.bus_semantics.specs.declared.entries.Actor.TheVariants.{Machine};
-ghost use Rattle.bus_semantics.specs.History.{is_environment};
-ghost use Rattle.bus_semantics.specs.Reading.{item_fits};
-ghost use Rattle.bus_semantics.specs.Run.{IsSessionOf, Session, idle, made, run_begins, run_closes, unsettled};
+ghost use Rattle.bus_semantics.specs.Common.{is_environment, item_fits, IsSessionOf, Session, idle, made, run_begins, run_closes, unsettled, wanted_of, history_of};
 ghost use Rattle.trace_check.specs.Along.{AreSound, plan_in};
-ghost use Rattle.bus_semantics.specs.Wanted.{wanted_of};
-ghost use Rattle.bus_semantics.specs.Run.{history_of};
 ghost use Rattle.trace_objects.specs.Going.{Asks};
 ghost use Rattle.trace_check.specs.Taking.{CanGoOn, Goes};
 ghost use Rattle.trace_check.specs.Checking.{CanJudge, Judges, JudgesRead, ReadFits, Stands, most_made};

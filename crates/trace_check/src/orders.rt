@@ -1,10 +1,8 @@
 //! The orders of a script that are left.
 
 ghost use Rattle.std.specs.Prelude.{◌≡◌, ◌<◌, IsTrue, ◌↔◌, [], ◌∷◌, false, MatchOption};
-ghost use Rattle.std.specs.List.{list_all};
+ghost use Rattle.bus_semantics.specs.Common.{list_all, a_call, a_run, orders_of_script, wanted_of};
 ghost use Rattle.bus_semantics.specs.declared.script.Line.TheVariants as line;
-ghost use Rattle.bus_semantics.specs.Run.{a_call, a_run, orders_of_script};
-ghost use Rattle.bus_semantics.specs.Wanted.{wanted_of};
 ghost use Rattle.trace_check.specs.Orders.{IsBegun, Takes, begins_with_a_call, is_nothing, left_of};
 
 use bus_semantics::{Line, Script, Wish};

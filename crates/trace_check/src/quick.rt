@@ -1,8 +1,7 @@
 //! The check of a trace that is legal: each line is compared with what comes next. Where one differs it gives up.
 
 ghost use Rattle.std.specs.Prelude.{◌≡◌, ◌++◌, IfOk, IfSome, true};
-ghost use Rattle.bus_semantics.specs.Run.{Session};
-ghost use Rattle.bus_semantics.specs.Spelling.{Letters, header};
+ghost use Rattle.bus_semantics.specs.Common.{Session, Letters, header};
 ghost use Rattle.trace_reading.specs.declared.checked.Checked.TheVariants.{Legal};
 ghost use Rattle.trace_check.specs.Along.{AreSound};
 ghost use Rattle.trace_check.specs.Checking.{CanJudge, Stands};

@@ -1,9 +1,7 @@
 //! The check of a given trace, line by line.
 
 ghost use Rattle.std.specs.Prelude.{◌≡◌, ◌↔◌, ◌++◌, IfOk, []};
-ghost use Rattle.bus_semantics.specs.Plan.{plan_of};
-ghost use Rattle.bus_semantics.specs.Sound.{IsSound};
-ghost use Rattle.bus_semantics.specs.Spelling.{Letters, header};
+ghost use Rattle.bus_semantics.specs.Common.{plan_of, IsSound, Letters, header};
 ghost use Rattle.trace_reading.specs.declared.checked.Checked.TheVariants.{Legal};
 ghost use Rattle.trace_reading.specs.Verdicts.{IsLegalTrace, IsVerdict};
 ghost use Rattle.trace_check.specs.Along.{AreSound};

@@ -1,10 +1,9 @@
 -- Numbers in decimal: how many letters they have, and that the first eight tell the codes apart.
-use Rattle.std.proofs.Common.{◌≡◌, ◌<◌, ◌≤◌, ◌+◌, ◌/◌, ◌%◌, ℕ, zero, suc, Bool, true, false, cond, ◌==◌, [], ◌∷◌, ◌++◌, length, nat_lt, bytes_eq, decimal, codes, inl, inr, refl, sym, ap, ◌∙◌, append_assoc, append-nil, length-append, subst, arith}
-use Rattle.std.specs.Fmt.{digit_glyph, digits, digits_onto}
-use Rattle.std.proofs.lemmas.Bool.{eqb-true, eq-eqb, false_from_ne_true, lt-ltb, ltb-false, cases_lt}
+use Rattle.std.proofs.Common.{◌≡◌, ◌<◌, ◌≤◌, ◌+◌, ◌/◌, ◌%◌, ℕ, zero, suc, Bool, true, false, cond, ◌==◌, [], ◌∷◌, ◌++◌, length, nat_lt, bytes_eq, decimal, codes, inl, inr, refl, sym, ap}
+use Rattle.std.proofs.Common.{◌∙◌, append_assoc, append-nil, length-append, subst, arith}
+use Rattle.bus_semantics.specs.Common.{digits, eqb-true, eq-eqb, false_from_ne_true, lt-ltb, ltb-false, cases_lt, bytes_eq-Decides, Letters}
+use Rattle.std.specs.Fmt.{digit_glyph, digits_onto}
 use Rattle.std.proofs.lemmas.Fmt.{length-decimal-le}
-use Rattle.std.proofs.lemmas.Slice.Eq.{bytes_eq-Decides}
-use Rattle.bus_semantics.specs.Spelling.{Letters}
 use Rattle.line_fields.specs.Numbers.{number_in}
 use Rattle.line_fields.proofs.Spelt.{decimal_back}
 use Rattle.trace_counts.specs.Lines.{kept}

@@ -1,15 +1,11 @@
 -- What is counted of the line of an item.
 use Rattle.std.proofs.Common.{◌≡◌, ℕ, zero, suc, ◌<◌, length, take, get_or, true, false, cond, ◌==◌, ◌||◌, List, [], ◌∷◌, ◌++◌, bytes_eq, decimal, codes, Some, None, refl, ap, ◌∙◌, arith}
-use Rattle.std.specs.List.{list_all}
-use Rattle.std.proofs.lemmas.Bool.{and_parts, eqb-true, false_from_ne_true}
+use Rattle.bus_semantics.specs.Common.{list_all, and_parts, eqb-true, false_from_ne_true, Plan, Item, made, run_begins, run_closes, idle, unsettled, Letters, actor_text, item_text}
 use Rattle.rte_value.specs.declared.kinds.Step.TheVariants as step
 use Rattle.bus_semantics.specs.declared.entries.Actor.{Actor}
 use Rattle.bus_semantics.specs.declared.entries.Deed.{Deed}
 use Rattle.bus_semantics.specs.declared.entries.Deed.TheVariants as deed
 use Rattle.bus_semantics.specs.declared.version.Version.{Version}
-use Rattle.bus_semantics.specs.Plan.{Plan}
-use Rattle.bus_semantics.specs.Run.{Item, made, run_begins, run_closes, idle, unsettled}
-use Rattle.bus_semantics.specs.Spelling.{Letters, actor_text, item_text}
 use Rattle.trace_counts.specs.declared.numbers.Mark.{Mark}
 use Rattle.trace_counts.specs.declared.numbers.Mark.TheVariants.{Run, Idle, Sent, SentAtLimit, Taken, Asked, AskedAtLimit, Answered, Other}
 use Rattle.trace_counts.specs.declared.numbers.Numbers.{Numbers}

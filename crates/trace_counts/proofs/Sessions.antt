@@ -1,16 +1,12 @@
 -- What is counted of the text of a session is what the session did.
 use Rattle.std.proofs.Common.{◌≡◌, ℕ, suc, min, Bool, true, false, cond, ◌==◌, ◌||◌, [], ◌∷◌, length, filter, refl, ap, ◌∙◌, arith}
-use Rattle.std.proofs.lemmas.Bool.{eqb-true}
+use Rattle.bus_semantics.specs.Common.{eqb-true, Plan, Item, made, run_begins, run_closes, idle, unsettled, Session, IsSound, item_text, spelling_of}
 use Rattle.bus_semantics.specs.declared.entries.Actor.{Actor}
 use Rattle.bus_semantics.specs.declared.entries.Deed.{Deed}
 use Rattle.bus_semantics.specs.declared.entries.Deed.TheVariants as deed
 use Rattle.bus_semantics.specs.declared.script.Mapping.{Mapping}
 use Rattle.bus_semantics.specs.declared.version.Version.{Version}
 use Rattle.bus_semantics.specs.declared.version.Version.TheVariants.{One, Two}
-use Rattle.bus_semantics.specs.Plan.{Plan}
-use Rattle.bus_semantics.specs.Run.{Item, made, run_begins, run_closes, idle, unsettled, Session}
-use Rattle.bus_semantics.specs.Sound.{IsSound}
-use Rattle.bus_semantics.specs.Spelling.{item_text, spelling_of}
 use Rattle.trace_counts.specs.declared.numbers.Mark.TheVariants.{Sent, SentAtLimit, Taken, Asked, AskedAtLimit, Answered, Other}
 use Rattle.trace_counts.specs.declared.tally.Tally.{Tally}
 use Rattle.trace_counts.specs.Lines.{nothing_begun}

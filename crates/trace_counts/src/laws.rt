@@ -3,10 +3,7 @@
 ghost use Rattle.std.specs.Prelude.{◌≡◌};
 ghost use Rattle.bus_semantics.specs.declared.script.Mapping.{Mapping};
 ghost use Rattle.bus_semantics.specs.declared.version.Version.{Version};
-ghost use Rattle.bus_semantics.specs.Plan.{Plan};
-ghost use Rattle.bus_semantics.specs.Run.{Session};
-ghost use Rattle.bus_semantics.specs.Sound.{IsSound};
-ghost use Rattle.bus_semantics.specs.Spelling.{spelling_of};
+ghost use Rattle.bus_semantics.specs.Common.{Plan, Session, IsSound, spelling_of};
 ghost use Rattle.trace_counts.specs.Sessions.{numbers_of};
 ghost use Rattle.trace_counts.specs.Tallies.{numbers_in};
 

@@ -1,38 +1,12 @@
 -- An entry that touches no object: an end, or an answer at a point that is not joined.
 use Rattle.std.proofs.Common.{◌≡◌, ℕ, zero, ℤ, Bool, true, false, ◌&&◌, ◌||◌, not, refl, sym, ◌∙◌, ap, subst, List, [], ◌∷◌, Option, Some, None}
 use Rattle.std.specs.Prelude.{◌==◌, ◌+◌, length, nat_lt, unwrap_or, option_map}
-use Rattle.std.specs.Option.{option_map_or}
-use Rattle.std.specs.List.{slice_get}
-use Rattle.std.proofs.lemmas.Bool.{and_parts, eqb-true, false≢true}
-use Rattle.std.proofs.lemmas.Option.{same_Some}
-use Rattle.rte_value.specs.declared.kinds.ActKey.{ActKey}
-use Rattle.rte_value.specs.Values.{same_number}
-use Rattle.bus_semantics.specs.declared.entries.Actor.{Actor}
-use Rattle.bus_semantics.specs.declared.entries.Actor.TheVariants.{Env, Machine, Act}
-use Rattle.bus_semantics.specs.declared.entries.Deed.{Deed}
+use Rattle.bus_semantics.specs.Common.{option_map_or, slice_get, and_parts, eqb-true, false≢true, same_Some, ActKey, same_number, Plan, Runnable, instance_of, kind_of, server_of, Wanted}
+use Rattle.bus_semantics.specs.Common.{to_tick, to_write, to_read, to_send, to_receive, to_ask, to_hear, to_take_result, to_switch, to_see_mode, to_move_on, to_end, wanted_by, History}
+use Rattle.bus_semantics.specs.Common.{Noted, Past, note, noted, runs, first_machine, object_of, object_of_kind, wish_fits, is_unqueued, is_queued, holds, next_of_activity, next_wish}
+use Rattle.bus_semantics.specs.Common.{is_outstanding, is_request_at, takes_reply_at, ask_code, is_due, Answers, IsLegal, IsSound, bundles_fit, groups_fit, kind_sound}
+use Rattle.bus_laws.specs.Common.{Actor, Env, Machine, Act, Deed, Entry, ElemPlan, EventPlan, EventKind, Timing, Init, DataReceived, Invoked, Returns, ModeSwitch, Ack, ModePortPlan, Mapping}
 use Rattle.bus_semantics.specs.declared.entries.Deed.TheVariants as deed
-use Rattle.bus_semantics.specs.declared.entries.Entry.{Entry}
-use Rattle.bus_semantics.specs.declared.plan.ElemPlan.{ElemPlan}
-use Rattle.bus_semantics.specs.declared.plan.EventPlan.{EventPlan}
-use Rattle.bus_semantics.specs.declared.plan.EventKind.{EventKind}
-use Rattle.bus_semantics.specs.declared.plan.EventKind.TheVariants.{Timing, Init, DataReceived, Invoked, Returns, ModeSwitch, Ack}
-use Rattle.bus_semantics.specs.declared.plan.ModePortPlan.{ModePortPlan}
-use Rattle.bus_semantics.specs.declared.script.Mapping.{Mapping}
-use Rattle.bus_semantics.specs.Plan.{Plan, Runnable, instance_of, kind_of, server_of}
-use Rattle.bus_semantics.specs.Wanted.{Wanted, to_tick, to_write, to_read, to_send, to_receive, to_ask, to_hear, to_take_result, to_switch, to_see_mode, to_move_on, to_end, wanted_by}
-use Rattle.bus_semantics.specs.History.{History, Noted, Past, note, noted, runs}
-use Rattle.bus_semantics.specs.Objects.{first_machine, object_of, object_of_kind}
-use Rattle.bus_semantics.specs.Fitting.{wish_fits}
-use Rattle.bus_semantics.specs.Owners.{is_unqueued, is_queued, holds}
-use Rattle.bus_semantics.specs.Activations.{next_of_activity}
-use Rattle.bus_semantics.specs.Actor.{next_wish}
-use Rattle.bus_semantics.specs.Calls.{is_outstanding, is_request_at, takes_reply_at, ask_code}
-use Rattle.bus_semantics.specs.Due.{is_due}
-use Rattle.bus_semantics.specs.Legal.{Answers, IsLegal}
-use Rattle.bus_semantics.specs.Sound.{IsSound}
-use Rattle.bus_semantics.specs.SoundLists.{bundles_fit}
-use Rattle.bus_semantics.specs.SoundPlan.{groups_fit}
-use Rattle.bus_semantics.specs.SoundEvents.{kind_sound}
 use Rattle.bus_laws.proofs.Bundling.{no_bundle}
 use Rattle.bus_laws.proofs.LocalCalls.{no_server}
 use Rattle.bus_laws.proofs.OneEvent.{kind_part}
@@ -42,9 +16,7 @@ use Rattle.history_laws.specs.Wishes.{is_of_a_call, is_the_end}
 use Rattle.history_laws.specs.Running.{GoesOn}
 use Rattle.history_laws.proofs.Keys.{wish_runs}
 use Rattle.port_objects.specs.declared.object.Object.{Object}
-use Rattle.port_objects.specs.Freed.{is_free, IsFree}
-use Rattle.port_objects.specs.Objects.{kept_of}
-use Rattle.port_objects.specs.Standing.{Stands}
+use Rattle.port_objects.specs.Common.{is_free, IsFree, kept_of, Stands}
 use Rattle.trace_objects.specs.Standing.{IsTried, IsOther, ObjectsStand}
 use Rattle.trace_objects.proofs.Tried.{Facts, IsAsked, wished, plain}
 use Rattle.trace_objects.proofs.Parted.{parted}

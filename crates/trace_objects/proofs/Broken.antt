@@ -1,31 +1,13 @@
 -- The clause that an entry breaks which is tried, by what may come of its wish.
 use Rattle.std.proofs.Common.{◌≡◌, ℕ, Bool, true, false, ◌&&◌, not, if◌then◌else◌, refl, sym, ◌∙◌, ap, subst, length, nat_lt, Option, Some, None}
 use Rattle.std.specs.Prelude.{unwrap_or}
-use Rattle.std.proofs.lemmas.Bool.{and_parts, and_from, false≢true}
-use Rattle.rte_value.specs.declared.kinds.ActKey.{ActKey}
-use Rattle.rte_value.specs.declared.value.Value.{Value}
-use Rattle.rte_value.specs.Values.{words_of, same_number}
-use Rattle.bus_semantics.specs.declared.entries.Actor.{Actor}
-use Rattle.bus_semantics.specs.declared.entries.Actor.TheVariants.{Env, Machine, Act}
-use Rattle.bus_semantics.specs.declared.entries.Deed.{Deed}
+use Rattle.bus_semantics.specs.Common.{and_parts, and_from, false≢true, ActKey, Value, words_of, same_number, Plan, kind_of, instance_of, runnable_of_event, to_start, wanted_by, History}
+use Rattle.bus_semantics.specs.Common.{Noted, Past, note, noted, runs, object_of, touched, touched_by, entries_of, key_fits, event_fits, wish_fits, fits, start_fits, may_start}
+use Rattle.bus_semantics.specs.Common.{caller_has_asked, is_held_back, follows_program, is_due, Answers, broken_answer, broken_clause, due_allows, is_proper, SameAnswers, start_matches}
+use Rattle.bus_semantics.specs.Common.{IsPastOf, NoneMayCome, IsSound}
+use Rattle.bus_laws.specs.Common.{Actor, Env, Machine, Act, Deed, Entry, Mapping}
 use Rattle.bus_semantics.specs.declared.entries.Deed.TheVariants as deed
-use Rattle.bus_semantics.specs.declared.entries.Entry.{Entry}
 use Rattle.bus_semantics.specs.declared.entries.Wish.TheVariants as wish
-use Rattle.bus_semantics.specs.declared.script.Mapping.{Mapping}
-use Rattle.bus_semantics.specs.Plan.{Plan, kind_of, instance_of, runnable_of_event}
-use Rattle.bus_semantics.specs.Wanted.{to_start, wanted_by}
-use Rattle.bus_semantics.specs.History.{History, Noted, Past, note, noted, runs}
-use Rattle.bus_semantics.specs.Objects.{object_of, touched, touched_by, entries_of}
-use Rattle.bus_semantics.specs.Owners.{key_fits, event_fits}
-use Rattle.bus_semantics.specs.Fitting.{wish_fits, fits, start_fits}
-use Rattle.bus_semantics.specs.Actor.{may_start, caller_has_asked, is_held_back, follows_program}
-use Rattle.bus_semantics.specs.Due.{is_due}
-use Rattle.bus_semantics.specs.Legal.{Answers, broken_answer, broken_clause, due_allows}
-use Rattle.bus_semantics.specs.Locality.{is_proper, SameAnswers}
-use Rattle.bus_semantics.specs.Matching.{start_matches}
-use Rattle.bus_semantics.specs.Pasts.{IsPastOf}
-use Rattle.bus_semantics.specs.Asked.{NoneMayCome}
-use Rattle.bus_semantics.specs.Sound.{IsSound}
 use Rattle.bus_laws.proofs.Thinning.{option_same}
 use Rattle.history_laws.specs.Coming.{IsAsked, Comes}
 use Rattle.port_objects.specs.Freed.{is_free}

@@ -1,13 +1,8 @@
 -- What comes of comparing the entry that may come with the one that is tried.
 use Rattle.std.proofs.Common.{◌≡◌, true, refl, sym, ◌∙◌, ap, subst, None}
-use Rattle.bus_semantics.specs.declared.entries.Deed.{Deed}
-use Rattle.bus_semantics.specs.declared.entries.Entry.{Entry}
-use Rattle.bus_semantics.specs.Plan.{Plan}
-use Rattle.bus_semantics.specs.Wanted.{Wanted}
-use Rattle.bus_semantics.specs.History.{Past}
-use Rattle.port_objects.specs.Kept.{Kept}
-use Rattle.port_objects.specs.Coming.{IsTheOne}
-use Rattle.port_objects.specs.Freed.{is_free, IsFree}
+use Rattle.bus_laws.specs.Common.{Deed, Entry}
+use Rattle.bus_semantics.specs.Common.{Plan, Wanted, Past}
+use Rattle.port_objects.specs.Common.{Kept, IsTheOne, is_free, IsFree}
 use Rattle.trace_objects.specs.declared.came.Came.{Came}
 use Rattle.trace_objects.specs.declared.came.Came.TheVariants.{Itself, Another, Nothing}
 use Rattle.trace_objects.specs.Clauses.{broken_by}

@@ -1,21 +1,9 @@
 -- Each event of a task is mapped, and starts a runnable by its plain key.
 use Rattle.std.proofs.Common.{◌≡◌, ℕ, suc, ◌<◌, ◌≤◌, ◌==◌, inl, inr, Bool, true, false, ◌&&◌, if◌then◌else◌, refl, sym, ap, subst, arith, List, [], ◌∷◌, length, Option, Some, None}
 use Rattle.std.specs.Prelude.{is_none, is_some, nat_le, nat_lt}
-use Rattle.std.specs.List.{list_all, slice_get}
-use Rattle.std.specs.Option.{option_map_or}
-use Rattle.std.proofs.lemmas.Bool.{and_parts, eq-eqb, eqb-true, ltb-true}
-use Rattle.bus_semantics.specs.declared.plan.EventKind.{EventKind}
-use Rattle.bus_semantics.specs.declared.plan.EventKind.TheVariants.{Invoked}
-use Rattle.bus_semantics.specs.declared.plan.EventPlan.{EventPlan}
-use Rattle.bus_semantics.specs.declared.script.Mapping.{Mapping}
-use Rattle.bus_semantics.specs.declared.script.Task.{Task}
-use Rattle.bus_semantics.specs.Plan.{Plan, positions, every_from, queue_of, runnable_of_event}
-use Rattle.bus_semantics.specs.History.{count}
-use Rattle.bus_semantics.specs.Owners.{key_fits}
-use Rattle.bus_semantics.specs.SoundNames.{is_name}
-use Rattle.bus_semantics.specs.SoundPlan.{is_in}
-use Rattle.bus_semantics.specs.Sound.{IsSound, mapped_events, tasks_of, times_mapped}
-use Rattle.bus_semantics.specs.Rest.{plain_key}
+use Rattle.bus_semantics.specs.Common.{list_all, slice_get, option_map_or, and_parts, eq-eqb, eqb-true, ltb-true, Plan, positions, every_from, queue_of, runnable_of_event, count, key_fits}
+use Rattle.bus_semantics.specs.Common.{is_name, is_in, IsSound, mapped_events, tasks_of, times_mapped, plain_key}
+use Rattle.bus_laws.specs.Common.{EventKind, Invoked, EventPlan, Mapping, Task}
 use Rattle.bus_laws.proofs.OneEvent.{kind_at}
 use Rattle.bus_laws.proofs.Thinning.{every_at}
 use Rattle.history_laws.proofs.Lists.{there_is}

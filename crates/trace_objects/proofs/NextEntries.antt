@@ -1,35 +1,17 @@
 -- The entry of what an actor asks for may follow, and its object stands for it.
 use Rattle.std.proofs.Common.{◌≡◌, ℕ, ℤ, Bool, true, false, ◌&&◌, not, refl, sym, ◌∙◌, ap, subst, List, ◌∷◌, set, Option, Some, None}
 use Rattle.std.specs.Prelude.{unwrap_or}
-use Rattle.std.proofs.lemmas.Bool.{and_from, false≢true}
-use Rattle.std.proofs.lemmas.Option.{same_Some}
-use Rattle.rte_value.specs.declared.kinds.ActKey.{ActKey}
-use Rattle.rte_value.specs.Values.{same_number}
-use Rattle.bus_semantics.specs.declared.entries.Actor.{Actor}
-use Rattle.bus_semantics.specs.declared.entries.Actor.TheVariants.{Act}
-use Rattle.bus_semantics.specs.declared.entries.Deed.{Deed}
+use Rattle.bus_semantics.specs.Common.{and_from, false≢true, same_Some, ActKey, same_number, Plan, Runnable, Wanted, to_end, wanted_by, History, Noted, Past, last_started, needs_event, note}
+use Rattle.bus_semantics.specs.Common.{noted, object_of, touched, entries_of, fits, wish_fits, next_wish, is_held_back, is_this, follows_program, Answers, MayFollow, asks_its_own, event_of}
+use Rattle.bus_semantics.specs.Common.{noted_for, MayCome, IsSound, next_of_activity}
+use Rattle.bus_laws.specs.Common.{Actor, Act, Deed, Entry, Mapping}
 use Rattle.bus_semantics.specs.declared.entries.Deed.TheVariants as deed
-use Rattle.bus_semantics.specs.declared.entries.Entry.{Entry}
-use Rattle.bus_semantics.specs.declared.script.Mapping.{Mapping}
-use Rattle.bus_semantics.specs.Plan.{Plan, Runnable}
-use Rattle.bus_semantics.specs.Wanted.{Wanted, to_end, wanted_by}
-use Rattle.bus_semantics.specs.History.{History, Noted, Past, last_started, needs_event, note, noted}
-use Rattle.bus_semantics.specs.Objects.{object_of, touched, entries_of}
-use Rattle.bus_semantics.specs.Fitting.{fits, wish_fits}
-use Rattle.bus_semantics.specs.Actor.{next_wish, is_held_back, is_this, follows_program}
-use Rattle.bus_semantics.specs.Legal.{Answers, MayFollow}
-use Rattle.bus_semantics.specs.Asked.{asks_its_own, event_of, noted_for, MayCome}
-use Rattle.bus_semantics.specs.Sound.{IsSound}
-use Rattle.bus_semantics.specs.Activations.{next_of_activity}
 use Rattle.bus_semantics.proofs.SameWanted.{same_wanted-Decides}
 use Rattle.history_laws.specs.Followed.{IsActivation}
 use Rattle.history_laws.specs.Running.{GoesOn}
 use Rattle.history_laws.proofs.Keys.{wish_runs}
 use Rattle.port_objects.specs.declared.object.Object.{Object}
-use Rattle.port_objects.specs.Coming.{IsTheOne}
-use Rattle.port_objects.specs.Freed.{is_free, IsFree}
-use Rattle.port_objects.specs.Objects.{kept_of}
-use Rattle.port_objects.specs.Standing.{Stands}
+use Rattle.port_objects.specs.Common.{IsTheOne, is_free, IsFree, kept_of, Stands}
 use Rattle.trace_objects.specs.Going.{Asks, by_program, by_itself, IsNext, MakesNext}
 use Rattle.trace_objects.specs.Standing.{IsTried, ObjectsStand}
 use Rattle.trace_objects.proofs.Alone.{with_event}

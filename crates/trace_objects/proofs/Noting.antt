@@ -1,20 +1,12 @@
 -- What may come of its own, after an entry on an object.
 use Rattle.std.proofs.Common.{◌≡◌, ℕ, ◌+◌, ◌<◌, Bool, true, false, refl, sym, ◌∙◌, ap, subst, arith, List, length, set, get_or, Contains, Some}
 use Rattle.std.specs.Prelude.{unwrap_or}
-use Rattle.std.specs.List.{slice_get}
-use Rattle.std.proofs.lemmas.Bool.{false≢true}
+use Rattle.bus_semantics.specs.Common.{slice_get, false≢true, get_or_from_slice_get, same_Some, Plan, kind_of, Wanted, first_machine, object_of, object_of_kind, touched}
 use Rattle.std.proofs.lemmas.List.{set-get_or}
-use Rattle.std.proofs.lemmas.Option.{get_or_from_slice_get, same_Some}
-use Rattle.bus_semantics.specs.declared.entries.Actor.{Actor}
-use Rattle.bus_semantics.specs.declared.entries.Deed.{Deed}
-use Rattle.bus_semantics.specs.Plan.{Plan, kind_of}
-use Rattle.bus_semantics.specs.Wanted.{Wanted}
-use Rattle.bus_semantics.specs.Objects.{first_machine, object_of, object_of_kind, touched}
+use Rattle.bus_laws.specs.Common.{Actor, Deed}
 use Rattle.object_kinds.specs.declared.acted.Shown.{Shown}
 use Rattle.port_objects.specs.declared.object.Object.{Object}
-use Rattle.port_objects.specs.Answers.{IsHeld}
-use Rattle.port_objects.specs.Objects.{kept_of}
-use Rattle.port_objects.specs.Waking.{may_start_in, woken_in}
+use Rattle.port_objects.specs.Common.{IsHeld, kept_of, may_start_in, woken_in}
 use Rattle.trace_objects.specs.Unrest.{AreAmong, IsHeldBack, IsLed, PhasesAmong, StartHeld, StartsAmong}
 use Rattle.trace_objects.specs.declared.unrest.Unrest.{Unrest}
 use Rattle.latches.proofs.Places.{Placed, here, there, placed}

@@ -1,24 +1,12 @@
 -- An entry on the object that it touches: the objects stand for it, or the bus answers something else.
 use Rattle.std.proofs.Common.{◌≡◌, ◌≢◌, ℕ, Bool, true, false, if◌then◌else◌, refl, sym, ◌∙◌, ap, subst, List, ◌∷◌, set, Option, Some}
 use Rattle.std.specs.Prelude.{◌==◌, unwrap_or}
-use Rattle.std.specs.Cmp.{unsigned_Decides}
-use Rattle.std.proofs.lemmas.Bool.{eq-eqb}
-use Rattle.std.proofs.lemmas.List.{length-set}
-use Rattle.rte_value.specs.Values.{same_number}
+use Rattle.bus_semantics.specs.Common.{unsigned_Decides, eq-eqb, length-set, same_number, Plan, Wanted, wanted_by, History, Noted, note, noted, object_of, touched_by, touches, touched}
+use Rattle.bus_semantics.specs.Common.{entries_of, Answers, MayFollow, IsLegal, Follows, IsPastOf, noted_for, MayCome}
 use Rattle.latches.proofs.Places.{Placed, here, there, placed}
-use Rattle.bus_semantics.specs.declared.entries.Entry.{Entry}
-use Rattle.bus_semantics.specs.declared.script.Mapping.{Mapping}
-use Rattle.bus_semantics.specs.Plan.{Plan}
-use Rattle.bus_semantics.specs.Wanted.{Wanted, wanted_by}
-use Rattle.bus_semantics.specs.History.{History, Noted, note, noted}
-use Rattle.bus_semantics.specs.Objects.{object_of, touched_by, touches, touched, entries_of}
-use Rattle.bus_semantics.specs.Legal.{Answers, MayFollow, IsLegal}
-use Rattle.bus_semantics.specs.Pasts.{Follows, IsPastOf}
-use Rattle.bus_semantics.specs.Asked.{noted_for, MayCome}
+use Rattle.bus_laws.specs.Common.{Entry, Mapping}
 use Rattle.port_objects.specs.declared.object.Object.{Object}
-use Rattle.port_objects.specs.Coming.{IsTheOne}
-use Rattle.port_objects.specs.Objects.{kept_of, IsOfPlan, ArePlans}
-use Rattle.port_objects.specs.Standing.{Stands}
+use Rattle.port_objects.specs.Common.{IsTheOne, kept_of, IsOfPlan, ArePlans, Stands}
 use Rattle.trace_objects.specs.Standing.{IsTried, ObjectsStand}
 use Rattle.trace_objects.proofs.Tried.{Facts}
 

@@ -1,33 +1,13 @@
 -- What is tried where no activation runs, and that it is all that counts for rest.
 use Rattle.std.proofs.Common.{◌≡◌, ℕ, Bool, true, false, ◌&&◌, not, if◌then◌else◌, refl, sym, ◌∙◌, ap, subst, List, [], ◌∷◌, ◌++◌, map, length, Option, Some, None}
 use Rattle.std.specs.Prelude.{is_none, nat_lt, option_and_then, unwrap_or}
-use Rattle.std.specs.List.{list_any}
-use Rattle.std.proofs.lemmas.Bool.{and_parts, and_from, eq-eqb, false≢true, lt-ltb}
-use Rattle.std.proofs.lemmas.Option.{slice_get_within}
-use Rattle.rte_value.specs.declared.kinds.ActKey.{ActKey}
-use Rattle.rte_value.specs.Values.{same_number}
-use Rattle.bus_semantics.specs.declared.plan.EventKind.TheVariants.{Returns}
-use Rattle.bus_semantics.specs.declared.plan.EventPlan.{EventPlan}
-use Rattle.bus_semantics.specs.declared.entries.Actor.{Actor}
-use Rattle.bus_semantics.specs.declared.entries.Actor.TheVariants.{Env, Machine, Act}
-use Rattle.bus_semantics.specs.declared.entries.Deed.{Deed}
+use Rattle.bus_semantics.specs.Common.{list_any, and_parts, and_from, eq-eqb, false≢true, lt-ltb, slice_get_within, ActKey, same_number, Plan, positions, kind_of, instance_of, server_of}
+use Rattle.bus_semantics.specs.Common.{caller_of, runnable_of_event, Wanted, to_start, to_move_on, wanted_by, History, Noted, needs_event, note, noted, runs, object_of, touched_by, touches}
+use Rattle.bus_semantics.specs.Common.{touched, entries_of, key_fits, event_fits, wish_fits, activation_of, wanted_in, next_wish, asked_last, is_held_back, may_start, follows_program}
+use Rattle.bus_semantics.specs.Common.{is_due, IsLegal, MayFollow, Follows, IsPastOf, event_of, noted_for, MayCome, NoneMayCome, IsSound, Try, plain_key, option_list, gathered, keys_of}
+use Rattle.bus_semantics.specs.Common.{direct_try, machine_tries, event_runs, is_free, task_tries, tries, IsStuck, AllStuck, IsAtRest}
+use Rattle.bus_laws.specs.Common.{Returns, EventPlan, Actor, Env, Machine, Act, Deed, Entry, Mapping, Task}
 use Rattle.bus_semantics.specs.declared.entries.Deed.TheVariants as deed
-use Rattle.bus_semantics.specs.declared.entries.Entry.{Entry}
-use Rattle.bus_semantics.specs.declared.script.Mapping.{Mapping}
-use Rattle.bus_semantics.specs.declared.script.Task.{Task}
-use Rattle.bus_semantics.specs.Plan.{Plan, positions, kind_of, instance_of, server_of, caller_of, runnable_of_event}
-use Rattle.bus_semantics.specs.Wanted.{Wanted, to_start, to_move_on, wanted_by}
-use Rattle.bus_semantics.specs.History.{History, Noted, needs_event, note, noted, runs}
-use Rattle.bus_semantics.specs.Objects.{object_of, touched_by, touches, touched, entries_of}
-use Rattle.bus_semantics.specs.Owners.{key_fits, event_fits}
-use Rattle.bus_semantics.specs.Fitting.{wish_fits}
-use Rattle.bus_semantics.specs.Actor.{activation_of, wanted_in, next_wish, asked_last, is_held_back, may_start, follows_program}
-use Rattle.bus_semantics.specs.Due.{is_due}
-use Rattle.bus_semantics.specs.Legal.{IsLegal, MayFollow}
-use Rattle.bus_semantics.specs.Pasts.{Follows, IsPastOf}
-use Rattle.bus_semantics.specs.Asked.{event_of, noted_for, MayCome, NoneMayCome}
-use Rattle.bus_semantics.specs.Sound.{IsSound}
-use Rattle.bus_semantics.specs.Rest.{Try, plain_key, option_list, gathered, keys_of, direct_try, machine_tries, event_runs, is_free, task_tries, tries, IsStuck, AllStuck, IsAtRest}
 use Rattle.bus_laws.proofs.Thinning.{option_test, sought_where}
 use Rattle.history_laws.specs.Running.{GoesOn}
 use Rattle.no_stall.proofs.Lists.{all_at}

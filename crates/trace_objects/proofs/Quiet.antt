@@ -1,25 +1,10 @@
 -- Where no activation runs: what objects hold may not follow, and if nothing else may come of its own, the bus is at rest.
 use Rattle.std.proofs.Common.{◌≡◌, ℕ, ◌+◌, ◌<◌, Bool, true, false, refl, sym, ◌∙◌, ap, subst, arith, List, ◌∷◌, length, Option, Some, None}
 use Rattle.std.specs.Prelude.{is_some, unwrap_or, IfSome}
-use Rattle.std.specs.List.{slice_get}
-use Rattle.std.proofs.lemmas.Bool.{eqb-true, false≢true}
-use Rattle.rte_value.specs.declared.kinds.ActKey.{ActKey}
-use Rattle.bus_semantics.specs.declared.plan.EventKind.TheVariants.{Returns}
-use Rattle.bus_semantics.specs.declared.entries.Actor.{Actor}
-use Rattle.bus_semantics.specs.declared.entries.Actor.TheVariants.{Machine, Act}
-use Rattle.bus_semantics.specs.declared.entries.Entry.{Entry}
-use Rattle.bus_semantics.specs.declared.script.Mapping.{Mapping}
-use Rattle.bus_semantics.specs.Plan.{Plan, kind_of, server_of, runnable_of_event}
-use Rattle.bus_semantics.specs.Wanted.{Wanted, to_start, to_move_on}
-use Rattle.bus_semantics.specs.History.{History, Noted, Past, noted, runs}
-use Rattle.bus_semantics.specs.Objects.{first_machine, object_of, object_of_kind, entries_of, IsObject}
-use Rattle.bus_semantics.specs.Fitting.{wish_fits}
-use Rattle.bus_semantics.specs.Due.{is_due}
-use Rattle.bus_semantics.specs.Legal.{IsLegal}
-use Rattle.bus_semantics.specs.Pasts.{Follows, IsPastOf}
-use Rattle.bus_semantics.specs.Asked.{NoneMayCome}
-use Rattle.bus_semantics.specs.Sound.{times_mapped}
-use Rattle.bus_semantics.specs.Rest.{plain_key, start_try, IsStuck, AllStuck, IsAtRest}
+use Rattle.bus_semantics.specs.Common.{slice_get, eqb-true, false≢true, ActKey, Plan, kind_of, server_of, runnable_of_event, Wanted, to_start, to_move_on, History, Noted, Past, noted, runs}
+use Rattle.bus_semantics.specs.Common.{first_machine, object_of, object_of_kind, entries_of, IsObject, wish_fits, is_due, IsLegal, Follows, IsPastOf, NoneMayCome, times_mapped, plain_key}
+use Rattle.bus_semantics.specs.Common.{start_try, IsStuck, AllStuck, IsAtRest}
+use Rattle.bus_laws.specs.Common.{Returns, Actor, Machine, Act, Entry, Mapping}
 use Rattle.history_laws.specs.Running.{GoesOn}
 use Rattle.history_laws.proofs.Lists.{there_is}
 use Rattle.bus_laws.proofs.OneEvent.{kind_at}
@@ -29,11 +14,7 @@ use Rattle.no_stall.proofs.Tried.{start_stuck}
 use Rattle.object_kinds.specs.Kinds.{IsPlainStart}
 use Rattle.place_set.specs.Places.{NoneBetween}
 use Rattle.port_objects.specs.declared.object.Object.{Object}
-use Rattle.port_objects.specs.Kept.{Kept}
-use Rattle.port_objects.specs.Leading.{lead}
-use Rattle.port_objects.specs.Objects.{kept_of, ArePlans}
-use Rattle.port_objects.specs.Standing.{Stands}
-use Rattle.port_objects.specs.Waking.{may_start_in}
+use Rattle.port_objects.specs.Common.{Kept, lead, kept_of, ArePlans, Stands, may_start_in}
 use Rattle.trace_objects.specs.Resting.{Begins, IsPaused, Rests, StartComes, starts_of}
 use Rattle.trace_objects.specs.Unrest.{is_mapped, LeadsNowhere, PhaseHeld, PhasesAmong, StartHeld, StartsAmong}
 use Rattle.trace_objects.proofs.Mapped.{MappedEvent, mapped_event, own_key}

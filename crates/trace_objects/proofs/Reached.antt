@@ -1,24 +1,11 @@
 -- The object that a wish touches, among the objects of a plan.
 use Rattle.std.proofs.Common.{◌≡◌, ℕ, suc, ◌<◌, ◌+◌, true, sym, ◌∙◌, ap, subst, arith, List, length, set, get_or, Some}
 use Rattle.std.specs.Prelude.{◌==◌, IfSome, unwrap_or}
-use Rattle.std.specs.Cmp.{unsigned_Decides}
-use Rattle.std.specs.List.{slice_get}
-use Rattle.std.proofs.lemmas.Bool.{and_parts}
-use Rattle.std.proofs.lemmas.Option.{slice_get-get_or}
-use Rattle.bus_semantics.specs.declared.entries.Actor.{Actor}
-use Rattle.bus_semantics.specs.declared.script.Mapping.{Mapping}
-use Rattle.bus_semantics.specs.Plan.{Plan}
-use Rattle.bus_semantics.specs.Wanted.{Wanted}
-use Rattle.bus_semantics.specs.History.{History}
-use Rattle.bus_semantics.specs.Objects.{clock, object_of, touched, entries_of, IsObject}
-use Rattle.bus_semantics.specs.Fitting.{wish_fits}
-use Rattle.bus_semantics.specs.Asked.{asks_its_own}
-use Rattle.bus_semantics.specs.Sound.{IsSound}
-use Rattle.bus_semantics.specs.SoundPlan.{objects_counted}
+use Rattle.bus_semantics.specs.Common.{unsigned_Decides, slice_get, and_parts, slice_get-get_or, Plan, Wanted, History, clock, object_of, touched, entries_of, IsObject, wish_fits}
+use Rattle.bus_semantics.specs.Common.{asks_its_own, IsSound, objects_counted}
+use Rattle.bus_laws.specs.Common.{Actor, Mapping}
 use Rattle.port_objects.specs.declared.object.Object.{Object}
-use Rattle.port_objects.specs.Coming.{MayAsk}
-use Rattle.port_objects.specs.Objects.{kept_of, IsOfPlan, ArePlans}
-use Rattle.port_objects.specs.Standing.{Stands}
+use Rattle.port_objects.specs.Common.{MayAsk, kept_of, IsOfPlan, ArePlans, Stands}
 use Rattle.trace_objects.specs.Standing.{ObjectsStand}
 use Rattle.trace_objects.proofs.Parted.{plans_then}
 

@@ -1,7 +1,6 @@
 -- What holds of each number that is not in a set, as numbers come and go; and sets in which there is none.
 use Rattle.std.proofs.Common.{◌≡◌, ◌≢◌, ℕ, ◌<◌, ◌+◌, Bool, true, false, sym, ◌∙◌, ap, subst, arith, List, length, set, get_or, inl, inr}
-use Rattle.std.proofs.lemmas.Bool.{cases_eq, cases_lt, false≢true}
-use Rattle.std.proofs.lemmas.List.{get_or-set_other, get_or-set_same, length-set}
+use Rattle.bus_semantics.specs.Common.{cases_eq, cases_lt, false≢true, get_or-set_other, get_or-set_same, length-set}
 use Rattle.place_set.specs.Places.{NoneBetween}
 use Rattle.trace_objects.specs.Unrest.{OfOthers}
 

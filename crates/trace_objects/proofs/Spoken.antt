@@ -1,14 +1,9 @@
 -- Of a deed that is no start one clause speaks at most.
 use Rattle.std.proofs.Common.{◌≡◌, ℕ, Bool, true, false, ◌==◌, refl, sym, [], ◌∷◌, Option, Some, None}
-use Rattle.std.proofs.lemmas.Bool.{false≢true}
-use Rattle.bus_semantics.specs.declared.entries.Actor.{Actor}
-use Rattle.bus_semantics.specs.declared.entries.Deed.{Deed}
+use Rattle.bus_semantics.specs.Common.{false≢true, Plan, wanted_by, Past, Noted, Answers, broken_answer, first_false, unqueued_allows, queued_allows, calls_allow, areas_allow, modes_allow}
+use Rattle.bus_semantics.specs.Common.{admission_allows, due_allows, is_start}
+use Rattle.bus_laws.specs.Common.{Actor, Deed}
 use Rattle.bus_semantics.specs.declared.entries.Deed.TheVariants as deed
-use Rattle.bus_semantics.specs.Plan.{Plan}
-use Rattle.bus_semantics.specs.Wanted.{wanted_by}
-use Rattle.bus_semantics.specs.History.{Past, Noted}
-use Rattle.bus_semantics.specs.Legal.{Answers, broken_answer, first_false, unqueued_allows, queued_allows, calls_allow, areas_allow, modes_allow, admission_allows, due_allows}
-use Rattle.bus_semantics.specs.Asked.{is_start}
 use Rattle.trace_objects.specs.Clauses.{clause_of}
 
 -- what the bus answers breaks no clause

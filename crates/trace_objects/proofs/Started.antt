@@ -1,25 +1,10 @@
 -- Which clause a start breaks: calls, if another start by the event may come or it names another point than its key's; else it is not due.
 use Rattle.std.proofs.Common.{◌≡◌, ℕ, ◌≤◌, Bool, true, false, ◌&&◌, not, if◌then◌else◌, refl, sym, ◌∙◌, ap, subst, arith, [], ◌∷◌, length, Option, Some, None}
-use Rattle.std.proofs.lemmas.Bool.Decides.{nat_tests}
-use Rattle.std.specs.List.{slice_get}
-use Rattle.std.proofs.lemmas.Bool.{eqb-true, false≢true}
-use Rattle.std.proofs.lemmas.Option.{same_Some, slice_get_past}
-use Rattle.rte_value.specs.declared.kinds.ActKey.{ActKey}
-use Rattle.rte_value.specs.declared.value.Value.{Value}
-use Rattle.rte_value.specs.Values.{words_of, same_number}
-use Rattle.bus_semantics.specs.declared.plan.EventKind.{EventKind}
-use Rattle.bus_semantics.specs.declared.plan.EventKind.TheVariants.{Timing, Init, DataReceived, Invoked, Returns, ModeSwitch, Ack}
-use Rattle.bus_semantics.specs.declared.entries.Actor.TheVariants.{Act}
+use Rattle.bus_semantics.specs.Common.{nat_tests, slice_get, eqb-true, false≢true, same_Some, slice_get_past, ActKey, Value, words_of, same_number, Plan, kind_of, server_of}
+use Rattle.bus_semantics.specs.Common.{runnable_of_event, Past, Noted, key_fits, start_fits, requests_of, starts_of, counts_with, next_request, is_request, is_key_point, starts_request}
+use Rattle.bus_semantics.specs.Common.{has_unstarted, counts_for, is_due_kind, is_due, Answers, broken_answer, first_false, IsSound}
+use Rattle.bus_laws.specs.Common.{EventKind, Timing, Init, DataReceived, Invoked, Returns, ModeSwitch, Ack, Act, Mapping}
 use Rattle.bus_semantics.specs.declared.entries.Deed.TheVariants as deed
-use Rattle.bus_semantics.specs.declared.script.Mapping.{Mapping}
-use Rattle.bus_semantics.specs.Plan.{Plan, kind_of, server_of, runnable_of_event}
-use Rattle.bus_semantics.specs.History.{Past, Noted}
-use Rattle.bus_semantics.specs.Owners.{key_fits}
-use Rattle.bus_semantics.specs.Fitting.{start_fits}
-use Rattle.bus_semantics.specs.Calls.{requests_of, starts_of, counts_with, next_request, is_request, is_key_point, starts_request, has_unstarted}
-use Rattle.bus_semantics.specs.Due.{counts_for, is_due_kind, is_due}
-use Rattle.bus_semantics.specs.Legal.{Answers, broken_answer, first_false}
-use Rattle.bus_semantics.specs.Sound.{IsSound}
 use Rattle.history_laws.proofs.Requests.{serving, counts_same}
 use Rattle.trace_objects.specs.Clauses.{names_foreign}
 

@@ -1,9 +1,6 @@
 -- Lists of tries of which none may follow.
 use Rattle.std.proofs.Common.{◌≡◌, ℕ, zero, suc, ◌<◌, refl, arith, List, [], ◌∷◌, ◌++◌, map, Some}
-use Rattle.std.specs.List.{slice_get}
-use Rattle.bus_semantics.specs.Plan.{Plan, positions}
-use Rattle.bus_semantics.specs.History.{History}
-use Rattle.bus_semantics.specs.Rest.{Try, gathered, IsStuck, AllStuck}
+use Rattle.bus_semantics.specs.Common.{slice_get, Plan, positions, History, Try, gathered, IsStuck, AllStuck}
 
 module _ (p : Plan) (h : History) where
   pub both : (ts us : List Try) → AllStuck p h ts → AllStuck p h us → AllStuck p h (ts ++ us)

@@ -1,25 +1,11 @@
 -- What is known of an entry that is tried: its wish fits and is its own, it touches what its wish touches, and it may follow if it may come.
 use Rattle.std.proofs.Common.{◌≡◌, ℕ, Bool, true, false, ◌&&◌, not, if◌then◌else◌, refl, sym, ◌∙◌, ap, subst, Option, Some, None}
 use Rattle.std.specs.Prelude.{is_none, unwrap_or}
-use Rattle.std.proofs.lemmas.Bool.{and_parts, false≢true}
-use Rattle.std.proofs.lemmas.Option.{same_Some}
-use Rattle.rte_value.specs.declared.kinds.ActKey.{ActKey}
-use Rattle.rte_value.specs.declared.value.Value.{Value}
-use Rattle.rte_value.specs.Values.{same_number}
-use Rattle.bus_semantics.specs.declared.entries.Actor.{Actor}
-use Rattle.bus_semantics.specs.declared.entries.Actor.TheVariants.{Env, Machine, Act}
-use Rattle.bus_semantics.specs.declared.entries.Deed.{Deed}
+use Rattle.bus_semantics.specs.Common.{and_parts, false≢true, same_Some, ActKey, Value, same_number, Plan, runnable_of_event, Wanted, to_start, wanted_by, History, Noted, needs_event}
+use Rattle.bus_semantics.specs.Common.{started_before, note, last_started, runs, object_of, touched_by, touched, entries_of, wish_fits, answer_fits, activation_fits, fits, next_wish}
+use Rattle.bus_semantics.specs.Common.{is_held_back, is_this, may_start, caller_has_asked, starts_or_goes_on, follows_program, MayFollow, asks_its_own, event_of, noted_for, MayCome}
+use Rattle.bus_laws.specs.Common.{Actor, Env, Machine, Act, Deed, Entry, Mapping}
 use Rattle.bus_semantics.specs.declared.entries.Deed.TheVariants as deed
-use Rattle.bus_semantics.specs.declared.entries.Entry.{Entry}
-use Rattle.bus_semantics.specs.declared.script.Mapping.{Mapping}
-use Rattle.bus_semantics.specs.Plan.{Plan, runnable_of_event}
-use Rattle.bus_semantics.specs.Wanted.{Wanted, to_start, wanted_by}
-use Rattle.bus_semantics.specs.History.{History, Noted, needs_event, started_before, note, last_started, runs}
-use Rattle.bus_semantics.specs.Objects.{object_of, touched_by, touched, entries_of}
-use Rattle.bus_semantics.specs.Fitting.{wish_fits, answer_fits, activation_fits, fits}
-use Rattle.bus_semantics.specs.Actor.{next_wish, is_held_back, is_this, may_start, caller_has_asked, starts_or_goes_on, follows_program}
-use Rattle.bus_semantics.specs.Legal.{MayFollow}
-use Rattle.bus_semantics.specs.Asked.{asks_its_own, event_of, noted_for, MayCome}
 use Rattle.history_laws.specs.Running.{GoesOn}
 use Rattle.history_laws.proofs.Keys.{wish_runs}
 use Rattle.bus_semantics.proofs.SameWanted.{same_wanted-Decides}

@@ -1,24 +1,12 @@
 -- What comes of making an entry that is tried, with the laws that are used.
 use Rattle.std.proofs.Common.{◌≡◌, ℕ, true, false, sym, ◌∙◌, ap, subst, List, ◌∷◌, set, Option, Some, None}
 use Rattle.std.specs.Prelude.{unwrap_or}
-use Rattle.rte_value.specs.declared.kinds.ActKey.{ActKey}
-use Rattle.bus_semantics.specs.declared.entries.Actor.{Actor}
-use Rattle.bus_semantics.specs.declared.entries.Actor.TheVariants.{Act}
-use Rattle.bus_semantics.specs.declared.entries.Entry.{Entry}
-use Rattle.bus_semantics.specs.declared.script.Mapping.{Mapping}
-use Rattle.bus_semantics.specs.Plan.{Plan}
-use Rattle.bus_semantics.specs.Wanted.{Wanted, wanted_by}
-use Rattle.bus_semantics.specs.History.{History, Noted, needs_event, note, noted, runs}
-use Rattle.bus_semantics.specs.Objects.{object_of, touched, entries_of}
-use Rattle.bus_semantics.specs.Actor.{next_wish, is_held_back, follows_program}
-use Rattle.bus_semantics.specs.Legal.{Answers, IsLegal, MayFollow}
-use Rattle.bus_semantics.specs.Sound.{IsSound}
-use Rattle.bus_semantics.specs.Pasts.{IsPastOf}
-use Rattle.bus_semantics.specs.Asked.{MayCome, NoneMayCome}
+use Rattle.bus_semantics.specs.Common.{ActKey, Plan, Wanted, wanted_by, History, Noted, needs_event, note, noted, runs, object_of, touched, entries_of, next_wish, is_held_back}
+use Rattle.bus_semantics.specs.Common.{follows_program, Answers, IsLegal, MayFollow, IsSound, IsPastOf, MayCome, NoneMayCome}
+use Rattle.bus_laws.specs.Common.{Actor, Act, Entry, Mapping}
 use Rattle.history_laws.specs.Running.{GoesOn}
 use Rattle.port_objects.specs.declared.object.Object.{Object}
-use Rattle.port_objects.specs.Freed.{is_free}
-use Rattle.port_objects.specs.Objects.{kept_of}
+use Rattle.port_objects.specs.Common.{is_free, kept_of}
 use Rattle.trace_objects.specs.declared.came.Came.{Came}
 use Rattle.trace_objects.specs.declared.came.Came.TheVariants.{Itself, Another, Nothing}
 use Rattle.trace_objects.specs.Standing.{IsTried, IsAnother, IsOther, IsMadeOn, IsMadeAlone, ObjectsStand, Tries}

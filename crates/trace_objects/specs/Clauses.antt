@@ -1,9 +1,7 @@
 -- The clause that an entry breaks which is not what the bus answers, by the number that `check` prints.
 use Rattle.std.specs.Prelude.{ℕ, Bool, false, not, if◌then◌else◌, Option, Some, None}
-use Rattle.bus_semantics.specs.declared.entries.Actor.{Actor}
-use Rattle.bus_semantics.specs.declared.entries.Deed.{Deed}
+use Rattle.bus_laws.specs.Common.{Actor, Deed, Entry}
 use Rattle.bus_semantics.specs.declared.entries.Deed.TheVariants as deed
-use Rattle.bus_semantics.specs.declared.entries.Entry.{Entry}
 use Rattle.bus_semantics.specs.Calls.{is_key_point}
 use Rattle.trace_objects.specs.declared.came.Came.{Came}
 use Rattle.trace_objects.specs.declared.came.Came.TheVariants.{Itself, Another, Nothing}

@@ -1,19 +1,8 @@
 -- What an actor asks for, and the entry that is made of it. Histories stand the newest first.
 use Rattle.std.specs.Prelude.{◌≡◌, List, ◌∷◌, true, false, Some, None, unwrap_or}
-use Rattle.rte_value.specs.declared.kinds.ActKey.{ActKey}
-use Rattle.bus_semantics.specs.declared.script.Mapping.{Mapping}
-use Rattle.bus_semantics.specs.declared.entries.Actor.{Actor}
-use Rattle.bus_semantics.specs.declared.entries.Actor.TheVariants.{Act}
-use Rattle.bus_semantics.specs.declared.entries.Deed.{Deed}
-use Rattle.bus_semantics.specs.declared.entries.Entry.{Entry}
-use Rattle.bus_semantics.specs.Plan.{Plan}
-use Rattle.bus_semantics.specs.Wanted.{Wanted, wanted_by}
-use Rattle.bus_semantics.specs.History.{History}
-use Rattle.bus_semantics.specs.Fitting.{fits, wish_fits}
-use Rattle.bus_semantics.specs.Actor.{follows_program, is_held_back, next_wish}
-use Rattle.bus_semantics.specs.Asked.{asks_its_own, event_of}
-use Rattle.bus_semantics.specs.Legal.{IsLegal, broken_clause}
-use Rattle.bus_semantics.specs.Sound.{IsSound}
+use Rattle.bus_semantics.specs.Common.{ActKey, Plan, Wanted, wanted_by, History, fits, wish_fits, follows_program, is_held_back, next_wish, asks_its_own, event_of, IsLegal, broken_clause}
+use Rattle.bus_semantics.specs.Common.{IsSound}
+use Rattle.bus_laws.specs.Common.{Mapping, Actor, Act, Deed, Entry}
 use Rattle.port_objects.specs.declared.object.Object.{Object}
 use Rattle.port_objects.specs.Freed.{is_free, IsFree}
 use Rattle.trace_objects.specs.Standing.{ObjectsStand}

@@ -1,17 +1,8 @@
 -- Rest if no activation runs, on objects that stand for a history. Histories stand the newest first.
 use Rattle.std.specs.Prelude.{◌≡◌, ℕ, List, Bool, true, false, Some}
-use Rattle.bus_semantics.specs.declared.script.Mapping.{Mapping}
-use Rattle.bus_semantics.specs.declared.script.Task.{Task}
-use Rattle.bus_semantics.specs.declared.entries.Actor.{Actor}
-use Rattle.bus_semantics.specs.declared.entries.Actor.TheVariants.{Act}
-use Rattle.bus_semantics.specs.declared.entries.Deed.{Deed}
-use Rattle.bus_semantics.specs.Plan.{Plan, runnable_of_event}
-use Rattle.bus_semantics.specs.Wanted.{Wanted, to_start, to_move_on, wanted_by}
-use Rattle.bus_semantics.specs.History.{History}
-use Rattle.bus_semantics.specs.Actor.{follows_program}
-use Rattle.bus_semantics.specs.Legal.{IsLegal}
-use Rattle.bus_semantics.specs.Sound.{IsSound}
-use Rattle.bus_semantics.specs.Rest.{Try, plain_key, gathered, start_try, none_runs, IsStuck, AllStuck, IsAtRest}
+use Rattle.bus_laws.specs.Common.{Mapping, Task, Actor, Act, Deed}
+use Rattle.bus_semantics.specs.Common.{Plan, runnable_of_event, Wanted, to_start, to_move_on, wanted_by, History, follows_program, IsLegal, IsSound, Try, plain_key, gathered, start_try}
+use Rattle.bus_semantics.specs.Common.{none_runs, IsStuck, AllStuck, IsAtRest}
 use Rattle.port_objects.specs.declared.object.Object.{Object}
 use Rattle.trace_objects.specs.Standing.{ObjectsStand}
 

@@ -1,23 +1,9 @@
 -- Objects that stand for a history, and an entry of a trace that is tried on them. Histories stand the newest first.
 use Rattle.std.specs.Prelude.{◌≡◌, ℕ, List, ◌∷◌, true, false, Option, Some, slice_get}
-use Rattle.bus_semantics.specs.declared.entries.Deed.{Deed}
-use Rattle.bus_semantics.specs.declared.entries.Entry.{Entry}
-use Rattle.bus_semantics.specs.declared.script.Mapping.{Mapping}
-use Rattle.bus_semantics.specs.Plan.{Plan}
-use Rattle.bus_semantics.specs.Wanted.{Wanted}
-use Rattle.bus_semantics.specs.History.{History, Noted, Past, note}
-use Rattle.bus_semantics.specs.Objects.{entries_of}
-use Rattle.bus_semantics.specs.Fitting.{fits}
-use Rattle.bus_semantics.specs.Actor.{follows_program}
-use Rattle.bus_semantics.specs.Legal.{IsLegal, broken_clause}
-use Rattle.bus_semantics.specs.Asked.{noted_for, MayCome, NoneMayCome}
-use Rattle.bus_semantics.specs.Sound.{IsSound}
+use Rattle.bus_laws.specs.Common.{Deed, Entry, Mapping}
+use Rattle.bus_semantics.specs.Common.{Plan, Wanted, History, Noted, Past, note, entries_of, fits, follows_program, IsLegal, broken_clause, noted_for, MayCome, NoneMayCome, IsSound}
 use Rattle.port_objects.specs.declared.object.Object.{Object}
-use Rattle.port_objects.specs.Kept.{Kept}
-use Rattle.port_objects.specs.Coming.{IsTheOne}
-use Rattle.port_objects.specs.Freed.{is_free, IsFree}
-use Rattle.port_objects.specs.Objects.{kept_of}
-use Rattle.port_objects.specs.Standing.{Stands}
+use Rattle.port_objects.specs.Common.{Kept, IsTheOne, is_free, IsFree, kept_of, Stands}
 use Rattle.trace_objects.specs.declared.came.Came.{Came}
 use Rattle.trace_objects.specs.declared.came.Came.TheVariants.{Itself, Another, Nothing}
 use Rattle.trace_objects.specs.Clauses.{broken_by}

@@ -1,19 +1,10 @@
 -- What may come of its own: the mapped events by which starts may come, and the machines of which phases may. Each object holds what is not
 -- among these.
 use Rattle.std.specs.Prelude.{◌≡◌, ℕ, ◌+◌, ◌<◌, ◌==◌, List, length, Bool, true, false, slice_get, slice_index_or, Some, None, unwrap_or}
-use Rattle.bus_semantics.specs.declared.entries.Actor.{Actor}
-use Rattle.bus_semantics.specs.declared.entries.Actor.TheVariants.{Machine, Act}
-use Rattle.bus_semantics.specs.declared.entries.Deed.{Deed}
-use Rattle.bus_semantics.specs.Plan.{Plan, kind_of}
-use Rattle.bus_semantics.specs.Wanted.{Wanted, to_start, to_move_on, wanted_by}
-use Rattle.bus_semantics.specs.History.{Noted}
-use Rattle.bus_semantics.specs.Objects.{first_machine, object_of_kind}
-use Rattle.bus_semantics.specs.Rest.{plain_key}
-use Rattle.bus_semantics.specs.Sound.{times_mapped}
+use Rattle.bus_laws.specs.Common.{Actor, Machine, Act, Deed}
+use Rattle.bus_semantics.specs.Common.{Plan, kind_of, Wanted, to_start, to_move_on, wanted_by, Noted, first_machine, object_of_kind, plain_key, times_mapped}
 use Rattle.port_objects.specs.declared.object.Object.{Object}
-use Rattle.port_objects.specs.Leading.{lead}
-use Rattle.port_objects.specs.Objects.{kept_of}
-use Rattle.port_objects.specs.Waking.{may_start_in, Tells}
+use Rattle.port_objects.specs.Common.{lead, kept_of, may_start_in, Tells}
 use Rattle.trace_objects.specs.declared.unrest.Unrest.{Unrest}
 
 -- an event that is in a task: a server's only if it has a queue (SWS_RTE: RteEventToTaskMapping)

@@ -1,11 +1,7 @@
 //! The clause that an entry breaks which is not what the bus answers.
 
 ghost use Rattle.std.specs.Prelude.{◌≡◌, false, None, Some};
-ghost use Rattle.bus_semantics.specs.Plan.{Plan};
-ghost use Rattle.bus_semantics.specs.Wanted.{wanted_by};
-ghost use Rattle.bus_semantics.specs.History.{Noted, Past};
-ghost use Rattle.bus_semantics.specs.Legal.{Answers, broken_answer};
-ghost use Rattle.bus_semantics.specs.Asked.{is_start};
+ghost use Rattle.bus_semantics.specs.Common.{Plan, wanted_by, Noted, Past, Answers, broken_answer, is_start};
 ghost use Rattle.trace_objects.specs.declared.came.Came.TheVariants.{Nothing};
 ghost use Rattle.trace_objects.specs.Clauses.{broken_by, clause_of, names_foreign, start_clause};
 

@@ -1,18 +1,10 @@
 //! What an actor asks for, made.
 
 ghost use Rattle.std.specs.Prelude.{◌≡◌, List, IfSome, Some, true, slice_get, set};
-ghost use Rattle.bus_semantics.specs.declared.script.Mapping.{Mapping};
-ghost use Rattle.bus_semantics.specs.declared.entries.Entry.{Entry};
-ghost use Rattle.bus_semantics.specs.Plan.{plan_of};
-ghost use Rattle.bus_semantics.specs.SoundPlan.{groups_fit};
-ghost use Rattle.bus_semantics.specs.Wanted.{wanted_of};
-ghost use Rattle.bus_semantics.specs.History.{History, Past};
-ghost use Rattle.bus_semantics.specs.Fitting.{wish_fits};
-ghost use Rattle.bus_semantics.specs.Objects.{object_of, touched};
-ghost use Rattle.bus_semantics.specs.Asked.{asks_its_own};
+ghost use Rattle.bus_laws.specs.Common.{Mapping, Entry};
+ghost use Rattle.bus_semantics.specs.Common.{plan_of, groups_fit, wanted_of, History, Past, wish_fits, object_of, touched, asks_its_own};
 ghost use Rattle.port_objects.specs.declared.object.Object.{Object};
-ghost use Rattle.port_objects.specs.Coming.{IsTheOne, MayAsk};
-ghost use Rattle.port_objects.specs.Objects.{ArePlans, IsOfPlan, kept_of};
+ghost use Rattle.port_objects.specs.Common.{IsTheOne, MayAsk, ArePlans, IsOfPlan, kept_of};
 ghost use Rattle.trace_objects.specs.Going.{CanGoOn, IsAlone, IsNext, MakesNext};
 ghost use Rattle.trace_objects.specs.Standing.{ObjectsStand};
 ghost use Rattle.trace_objects.specs.Unrest.{AreAmong};

@@ -2,17 +2,9 @@
 
 ghost use Rattle.std.specs.Prelude.{◌≡◌, ◌∷◌, List, true, slice_get, set, None, Some};
 ghost use Rattle.bus_semantics.specs.declared.script.Mapping.{Mapping};
-ghost use Rattle.bus_semantics.specs.Plan.{plan_of};
-ghost use Rattle.bus_semantics.specs.SoundPlan.{groups_fit};
-ghost use Rattle.bus_semantics.specs.Wanted.{wanted_of};
-ghost use Rattle.bus_semantics.specs.History.{History, Past};
-ghost use Rattle.bus_semantics.specs.Fitting.{wish_fits};
-ghost use Rattle.bus_semantics.specs.Objects.{object_of, touched};
-ghost use Rattle.bus_semantics.specs.Legal.{broken_clause};
-ghost use Rattle.bus_semantics.specs.Asked.{asks_its_own};
+ghost use Rattle.bus_semantics.specs.Common.{plan_of, groups_fit, wanted_of, History, Past, wish_fits, object_of, touched, broken_clause, asks_its_own};
 ghost use Rattle.port_objects.specs.declared.object.Object.{Object};
-ghost use Rattle.port_objects.specs.Coming.{MayAsk};
-ghost use Rattle.port_objects.specs.Objects.{ArePlans, IsOfPlan, kept_of};
+ghost use Rattle.port_objects.specs.Common.{MayAsk, ArePlans, IsOfPlan, kept_of};
 ghost use Rattle.trace_objects.specs.Standing.{CanTry, IsCompared, IsMadeAlone, IsMadeOn, IsTried, ObjectsStand, Tries};
 ghost use Rattle.trace_objects.specs.Unrest.{AreAmong};
 

@@ -2,15 +2,7 @@
 
 ghost use Rattle.std.specs.Prelude.{◌≡◌, ◌<◌, ℕ, length, true, false, is_some, slice_get, Some};
 ghost use Rattle.bus_semantics.specs.declared.script.Mapping.{Mapping};
-ghost use Rattle.bus_semantics.specs.Plan.{plan_of, queue_of, runnable_of_event};
-ghost use Rattle.bus_semantics.specs.Wanted.{wanted_of};
-ghost use Rattle.bus_semantics.specs.History.{History};
-ghost use Rattle.bus_semantics.specs.Objects.{object_of};
-ghost use Rattle.bus_semantics.specs.Fitting.{wish_fits};
-ghost use Rattle.bus_semantics.specs.Asked.{asks_its_own};
-ghost use Rattle.bus_semantics.specs.Legal.{IsLegal};
-ghost use Rattle.bus_semantics.specs.Sound.{IsSound};
-ghost use Rattle.bus_semantics.specs.Rest.{IsAtRest, none_runs};
+ghost use Rattle.bus_semantics.specs.Common.{plan_of, queue_of, runnable_of_event, wanted_of, History, object_of, wish_fits, asks_its_own, IsLegal, IsSound, IsAtRest, none_runs};
 ghost use Rattle.place_set.specs.Places.{NoneBetween};
 ghost use Rattle.port_objects.specs.declared.object.Object.{Object};
 ghost use Rattle.port_objects.specs.Objects.{ArePlans};

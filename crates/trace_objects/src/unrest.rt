@@ -1,8 +1,7 @@
 //! What may come of its own along a trace, if no activation runs: starts by events of tasks, and phases of machines.
 
 ghost use Rattle.std.specs.Prelude.{◌≡◌, ◌<◌, ℕ, List, length, true, false, IfOk, slice_index_or, slice_get, set, Some};
-ghost use Rattle.std.specs.List.{Contains};
-ghost use Rattle.bus_semantics.specs.Plan.{plan_of};
+ghost use Rattle.bus_semantics.specs.Common.{Contains, plan_of};
 ghost use Rattle.port_objects.specs.declared.object.Object.{Object};
 ghost use Rattle.trace_objects.specs.Unrest.{AreAmong, IsLed, PhasesAmong, StartsAmong};
 

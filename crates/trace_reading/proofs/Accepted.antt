@@ -1,13 +1,8 @@
 -- Items that are accepted go on a begun run, and none is both accepted and refused.
 use Rattle.std.proofs.Common.{◌≡◌, ℕ, true, ◌&&◌, List, ◌∷◌, Some, inl, inr, sym, ◌∙◌}
-use Rattle.std.proofs.lemmas.Bool.{and_parts, and_from}
-use Rattle.bus_semantics.specs.declared.script.Line.{Line}
-use Rattle.bus_semantics.specs.declared.script.Mapping.{Mapping}
-use Rattle.bus_semantics.specs.declared.entries.Entry.{Entry}
-use Rattle.bus_semantics.specs.Plan.{Plan}
-use Rattle.bus_semantics.specs.Fitting.{fits}
-use Rattle.bus_semantics.specs.Reading.{item_fits, is_sized, is_sized_actor}
-use Rattle.bus_semantics.specs.Run.{Item, made, run_begins, run_closes, Session, history_of, is_inside, is_placed, IsBegunRunOf}
+use Rattle.bus_semantics.specs.Common.{and_parts, and_from, Plan, fits, item_fits, is_sized, is_sized_actor, Item, made, run_begins, run_closes, Session, history_of, is_inside, is_placed}
+use Rattle.bus_semantics.specs.Common.{IsBegunRunOf}
+use Rattle.bus_laws.specs.Common.{Line, Mapping, Entry}
 use Rattle.trace_reading.specs.Refusals.{IsAccepted, IsRefused}
 use Rattle.trace_reading.proofs.Clauses.{unbroken, breaks_none}
 

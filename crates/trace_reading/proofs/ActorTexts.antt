@@ -1,24 +1,11 @@
 -- The actor of an item is read back from its text, and so is a point.
-use Rattle.std.proofs.Common.{◌≡◌, ℕ, ◌<◌, ◌≤◌, Bool, true, false, not, ◌&&◌, ◌==◌, cond, [], ◌∷◌, ◌++◌, length, nat_lt, bytes_eq, codes, is_some, option_map, Option, Some, None, refl, sym, ap, ◌∙◌, subst, append_assoc, arith}
-use Rattle.std.specs.List.{list_all, position, slice_get}
-use Rattle.std.specs.Option.{option_and_then, option_map_or}
-use Rattle.std.proofs.lemmas.Bool.{and_parts, and_from, false_from_ne_true, leb-true, lt-ltb, ltb-true}
-use Rattle.std.proofs.lemmas.List.{append-nil}
-use Rattle.std.proofs.lemmas.Option.{slice_get_within}
-use Rattle.std.proofs.lemmas.Slice.Eq.{bytes_eq-Decides}
-use Rattle.rte_value.specs.declared.kinds.ActKey.{ActKey}
-use Rattle.rte_value.specs.Values.{same_number}
-use Rattle.bus_semantics.specs.declared.entries.Actor.{Actor}
-use Rattle.bus_semantics.specs.declared.entries.Actor.TheVariants.{Env, Machine, Act}
-use Rattle.bus_semantics.specs.declared.plan.MachinePlan.{MachinePlan}
-use Rattle.bus_semantics.specs.declared.plan.PointPlan.{PointPlan}
-use Rattle.bus_semantics.specs.Objects.{served_by}
-use Rattle.bus_semantics.specs.Owners.{key_fits, serves_directly}
-use Rattle.bus_semantics.specs.Plan.{Plan, Runnable, server_of}
-use Rattle.bus_semantics.specs.Reading.{is_index, is_point, is_sized_actor}
-use Rattle.bus_semantics.specs.SoundNames.{is_env_path, is_name, is_pair_name, is_path, parts}
-use Rattle.bus_semantics.specs.SoundPlan.{instance_exists}
-use Rattle.bus_semantics.specs.Spelling.{Letters, actor_text, caller_text, instance_text, key_text, machine_text, point_text, runnable_text}
+use Rattle.std.proofs.Common.{◌≡◌, ℕ, ◌<◌, ◌≤◌, Bool, true, false, not, ◌&&◌, ◌==◌, cond, [], ◌∷◌, ◌++◌, length, nat_lt, bytes_eq, codes, is_some, option_map, Option, Some, None, refl, sym}
+use Rattle.std.proofs.Common.{ap, ◌∙◌, subst, append_assoc, arith}
+use Rattle.bus_semantics.specs.Common.{list_all, position, slice_get, option_and_then, option_map_or, and_parts, and_from, false_from_ne_true, leb-true, lt-ltb, ltb-true, append-nil}
+use Rattle.bus_semantics.specs.Common.{slice_get_within, bytes_eq-Decides, ActKey, same_number, served_by, key_fits, serves_directly, Plan, Runnable, server_of, is_index, is_point}
+use Rattle.bus_semantics.specs.Common.{is_sized_actor, is_env_path, is_name, is_pair_name, is_path, parts, instance_exists, Letters, actor_text, caller_text, instance_text, key_text}
+use Rattle.bus_semantics.specs.Common.{machine_text, point_text, runnable_text}
+use Rattle.bus_laws.specs.Common.{Actor, Env, Machine, Act, MachinePlan, PointPlan}
 use Rattle.line_fields.proofs.Joining.{all-append, lacks}
 use Rattle.line_fields.proofs.Distinct.{all_at}
 use Rattle.line_fields.specs.Named.{is_text}

@@ -1,20 +1,11 @@
 -- In a sound plan a point is one of a runnable that there is, or of the environment.
-use Rattle.std.proofs.Common.{◌≡◌, ℕ, zero, suc, ◌<◌, Bool, true, false, not, ◌&&◌, ◌||◌, ◌==◌, cond, List, [], ◌∷◌, ◌++◌, length, nat_lt, is_none, Option, Some, ◌⊎◌, inl, inr, refl, sym, ap, ◌∙◌, subst, arith}
-use Rattle.std.specs.List.{list_any, slice_get}
-use Rattle.std.specs.Option.{option_map_or}
-use Rattle.std.proofs.lemmas.Bool.{and_parts, cases_lt, eqb-true, eq-eqb, ltb-true, or_left, or_right}
-use Rattle.std.proofs.lemmas.Option.{slice_get_within}
-use Rattle.runnable_lang.specs.declared.program.AccessKind.{AccessKind}
+use Rattle.std.proofs.Common.{◌≡◌, ℕ, zero, suc, ◌<◌, Bool, true, false, not, ◌&&◌, ◌||◌, ◌==◌, cond, List, [], ◌∷◌, ◌++◌, length, nat_lt, is_none, Option, Some, ◌⊎◌, inl, inr, refl, sym}
+use Rattle.std.proofs.Common.{ap, ◌∙◌, subst, arith}
+use Rattle.bus_semantics.specs.Common.{list_any, slice_get, option_map_or, and_parts, cases_lt, eqb-true, eq-eqb, ltb-true, or_left, or_right, slice_get_within, AccessKind, AccessSig}
+use Rattle.bus_semantics.specs.Common.{same_number, Plan, Runnable, every_from, positions, gathered, access_sound, called_points, each_access, point_takes, same_limits, same_numbers}
+use Rattle.bus_semantics.specs.Common.{runnable_sound}
 use Rattle.runnable_lang.specs.declared.program.AccessKind.TheVariants as kind
-use Rattle.runnable_lang.specs.declared.program.AccessSig.{AccessSig}
-use Rattle.rte_value.specs.Values.{same_number}
 use Rattle.bus_semantics.specs.declared.plan.PointPlan.{PointPlan}
-use Rattle.bus_semantics.specs.Plan.{Plan, Runnable, every_from, positions}
-use Rattle.bus_semantics.specs.Rest.{gathered}
-use Rattle.bus_semantics.specs.SoundAccesses.{access_sound, called_points, each_access, point_takes}
-use Rattle.bus_semantics.specs.SoundElements.{same_limits}
-use Rattle.bus_semantics.specs.SoundPlan.{same_numbers}
-use Rattle.bus_semantics.specs.SoundPrograms.{runnable_sound}
 use Rattle.bus_laws.proofs.Thinning.{every_at}
 use Rattle.trace_reading.proofs.Letters.{either}
 use Rattle.trace_reading.proofs.Naming.{IsNamed}

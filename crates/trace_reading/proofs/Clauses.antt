@@ -1,12 +1,8 @@
 -- An entry breaks no clause exactly if it follows its program and is what the bus answers.
 use Rattle.std.proofs.Common.{◌≡◌, ℕ, Bool, true, false, ◌&&◌, if◌then◌else◌, List, [], ◌∷◌, Some, None, refl}
-use Rattle.std.specs.List.{list_all}
-use Rattle.std.proofs.lemmas.Bool.{and_parts, and_from}
+use Rattle.bus_semantics.specs.Common.{list_all, and_parts, and_from, Plan, History, Past, Noted, noted, note, follows_program, Answers, broken_answer, broken_clause, first_false}
+use Rattle.bus_semantics.specs.Common.{unqueued_allows, queued_allows, calls_allow, areas_allow, modes_allow, admission_allows, due_allows}
 use Rattle.bus_semantics.specs.declared.entries.Entry.{Entry}
-use Rattle.bus_semantics.specs.Plan.{Plan}
-use Rattle.bus_semantics.specs.History.{History, Past, Noted, noted, note}
-use Rattle.bus_semantics.specs.Actor.{follows_program}
-use Rattle.bus_semantics.specs.Legal.{Answers, broken_answer, broken_clause, first_false, unqueued_allows, queued_allows, calls_allow, areas_allow, modes_allow, admission_allows, due_allows}
 
 abbrev holds : ℕ × Bool → Bool
 holds clause = clause.1

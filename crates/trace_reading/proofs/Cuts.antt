@@ -1,15 +1,7 @@
 -- Two runs of items whose lines begin one text: the one goes on the other.
 use Rattle.std.proofs.Common.{◌≡◌, ℕ, ◌+◌, Bool, true, not, ◌&&◌, ◌==◌, List, [], ◌∷◌, ◌++◌, length, codes, refl, sym, ap, ◌∙◌, subst, append_assoc, length-append, arith}
-use Rattle.std.specs.List.{list_all}
-use Rattle.std.proofs.lemmas.Bool.{and_parts, and_from, false≢true}
-use Rattle.std.proofs.lemmas.List.{append-nil}
-use Rattle.std.proofs.lemmas.List.Folds.{list_all-append}
-use Rattle.bus_semantics.specs.declared.version.Version.{Version}
-use Rattle.bus_semantics.specs.declared.version.Version.TheVariants.{One, Two}
-use Rattle.bus_semantics.specs.Plan.{Plan}
-use Rattle.bus_semantics.specs.Reading.{item_fits}
-use Rattle.bus_semantics.specs.Run.{Item, Session}
-use Rattle.bus_semantics.specs.Spelling.{Letters, header, item_text, spelling_of}
+use Rattle.bus_semantics.specs.Common.{list_all, and_parts, and_from, false≢true, append-nil, list_all-append, Plan, item_fits, Item, Session, Letters, header, item_text, spelling_of}
+use Rattle.bus_laws.specs.Common.{Version, One, Two}
 use Rattle.trace_reading.specs.Reads.{ItemsHaveOneLine, LinesHaveOneReading}
 
 -- ---- lines

@@ -1,9 +1,8 @@
 -- A text that is cut at a separator, by its parts and by what it was joined of.
-use Rattle.std.proofs.Common.{◌≡◌, ℕ, zero, suc, ◌<◌, Bool, true, false, not, cond, ◌==◌, List, [], ◌∷◌, ◌++◌, length, nat_lt, option_copied, unwrap_or, Option, Some, None, Bor, refl, sym, ap, ◌∙◌, arith}
-use Rattle.std.specs.List.{list_all}
+use Rattle.std.proofs.Common.{◌≡◌, ℕ, zero, suc, ◌<◌, Bool, true, false, not, cond, ◌==◌, List, [], ◌∷◌, ◌++◌, length, nat_lt, option_copied, unwrap_or, Option, Some, None, Bor, refl, sym}
+use Rattle.std.proofs.Common.{ap, ◌∙◌, arith}
+use Rattle.bus_semantics.specs.Common.{list_all, and_parts, eqb-true, eq-eqb, Letters}
 use Rattle.std.specs.Prelude.{MatchOption}
-use Rattle.std.proofs.lemmas.Bool.{and_parts, eqb-true, eq-eqb}
-use Rattle.bus_semantics.specs.Spelling.{Letters}
 use Rattle.line_fields.specs.Texts.{onto_first, parts}
 use Rattle.line_fields.proofs.Cutting.{parts-some}
 use Rattle.line_fields.proofs.Joining.{joined, joined-parts, lacks, all_more}

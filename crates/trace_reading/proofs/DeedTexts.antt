@@ -1,32 +1,15 @@
 -- The deed of an item is read back from its fields.
 use Rattle.std.proofs.Common.{◌≡◌, ℕ, ◌<◌, ◌≤◌, Bool, true, false, ◌&&◌, ◌==◌, cond, List, [], length, nat_le, nat_lt, bytes_eq, codes, decimal, Option, Some, None, refl, sym, ap, ◌∙◌, arith}
-use Rattle.std.specs.List.{slice_get}
-use Rattle.std.specs.Option.{option_and_then, option_map_or}
-use Rattle.std.proofs.lemmas.Bool.{and_parts, leb-true, ltb-true}
-use Rattle.rte_value.specs.declared.kinds.ActKey.{ActKey}
-use Rattle.rte_value.specs.declared.kinds.Step.{Step}
+use Rattle.bus_semantics.specs.Common.{slice_get, option_and_then, option_map_or, and_parts, leb-true, ltb-true, ActKey, Step, Value, same_words-Decides, same_number, words_of}
+use Rattle.bus_semantics.specs.Common.{activation_fits, activation_may_want, answer_fits, environment_may_want, machine_may_want, start_fits, wish_fits, needs_event, elems_of, list_fits}
+use Rattle.bus_semantics.specs.Common.{marks_fit, words_of_all, marked, area_fits, key_fits, elem_fits, event_fits, mode_port_fits, modes_of, own_point, result_point, switch_fits, Plan}
+use Rattle.bus_semantics.specs.Common.{instance_of, kind_of, look, machine_of_port, are_words, is_byte, is_index, is_sized, Letters, elem_name, mask_text, mode_text, point_name, point_text}
+use Rattle.bus_semantics.specs.Common.{position_of, value_text, Wanted, to_tick, to_start, to_admit, to_fetch, to_write, to_read, to_invalidate, to_see_updated, to_send, to_receive, to_ask}
+use Rattle.bus_semantics.specs.Common.{to_hear, to_take_result, to_return, to_enter, to_leave, to_switch, to_see_mode, to_move_on, to_publish, to_fetch_all, to_publish_all, to_end}
+use Rattle.bus_semantics.specs.Common.{wanted_by}
 use Rattle.rte_value.specs.declared.kinds.Step.TheVariants as step
-use Rattle.rte_value.specs.declared.value.Value.{Value}
-use Rattle.rte_value.specs.EqualValues.{same_words-Decides}
-use Rattle.rte_value.specs.Values.{same_number, words_of}
-use Rattle.bus_semantics.specs.declared.entries.Actor.{Actor}
-use Rattle.bus_semantics.specs.declared.entries.Actor.TheVariants.{Env, Machine, Act}
-use Rattle.bus_semantics.specs.declared.entries.Deed.{Deed}
+use Rattle.bus_laws.specs.Common.{Actor, Env, Machine, Act, Deed, ElemPlan, EventKind, Timing, Init, DataReceived, Invoked, Returns, ModeSwitch, Ack, MachinePlan, ModePortPlan, Version}
 use Rattle.bus_semantics.specs.declared.entries.Deed.TheVariants as deed
-use Rattle.bus_semantics.specs.declared.plan.ElemPlan.{ElemPlan}
-use Rattle.bus_semantics.specs.declared.plan.EventKind.{EventKind}
-use Rattle.bus_semantics.specs.declared.plan.EventKind.TheVariants.{Timing, Init, DataReceived, Invoked, Returns, ModeSwitch, Ack}
-use Rattle.bus_semantics.specs.declared.plan.MachinePlan.{MachinePlan}
-use Rattle.bus_semantics.specs.declared.plan.ModePortPlan.{ModePortPlan}
-use Rattle.bus_semantics.specs.declared.version.Version.{Version}
-use Rattle.bus_semantics.specs.Fitting.{activation_fits, activation_may_want, answer_fits, environment_may_want, machine_may_want, start_fits, wish_fits}
-use Rattle.bus_semantics.specs.History.{needs_event}
-use Rattle.bus_semantics.specs.Lists.{elems_of, list_fits, marks_fit, words_of_all, marked}
-use Rattle.bus_semantics.specs.Owners.{area_fits, key_fits, elem_fits, event_fits, mode_port_fits, modes_of, own_point, result_point, switch_fits}
-use Rattle.bus_semantics.specs.Plan.{Plan, instance_of, kind_of, look, machine_of_port}
-use Rattle.bus_semantics.specs.Reading.{are_words, is_byte, is_index, is_sized}
-use Rattle.bus_semantics.specs.Spelling.{Letters, elem_name, mask_text, mode_text, point_name, point_text, position_of, value_text}
-use Rattle.bus_semantics.specs.Wanted.{Wanted, to_tick, to_start, to_admit, to_fetch, to_write, to_read, to_invalidate, to_see_updated, to_send, to_receive, to_ask, to_hear, to_take_result, to_return, to_enter, to_leave, to_switch, to_see_mode, to_move_on, to_publish, to_fetch_all, to_publish_all, to_end, wanted_by}
 use Rattle.trace_reading.specs.declared.words.CallWord.TheVariants as call
 use Rattle.trace_reading.specs.Deeds.{Line, called_at, caller_itself, home_of, mode_at}
 use Rattle.trace_reading.specs.Fields.{code_at, no_value, value_at}

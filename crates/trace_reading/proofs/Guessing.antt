@@ -1,20 +1,8 @@
 -- Where a line is that of any entry, then of the one that is guessed. So each line has at most one reading.
 use Rattle.std.proofs.Common.{◌≡◌, ◌-◌, ◌+◌, true, ◌&&◌, cond, List, ◌∷◌, ◌++◌, length, take, codes, Some, ap, ◌∙◌, length-append, arith}
-use Rattle.std.specs.List.{list_all}
-use Rattle.std.specs.Option.{option_and_then}
-use Rattle.std.proofs.lemmas.Bool.{and_parts}
-use Rattle.std.proofs.Math.Seq.{take-append_seam}
-use Rattle.bus_semantics.specs.declared.entries.Actor.{Actor}
-use Rattle.bus_semantics.specs.declared.entries.Deed.{Deed}
-use Rattle.bus_semantics.specs.declared.entries.Entry.{Entry}
-use Rattle.bus_semantics.specs.declared.version.Version.{Version}
-use Rattle.bus_semantics.specs.Fitting.{activation_fits, answer_fits, fits, wish_fits}
-use Rattle.bus_semantics.specs.History.{needs_event}
-use Rattle.bus_semantics.specs.Plan.{Plan}
-use Rattle.bus_semantics.specs.Reading.{IsReadingOf, is_sized, is_sized_actor, item_fits}
-use Rattle.bus_semantics.specs.Run.{made}
-use Rattle.bus_semantics.specs.Spelling.{Letters, actor_text}
-use Rattle.bus_semantics.specs.Wanted.{wanted_by}
+use Rattle.bus_semantics.specs.Common.{list_all, option_and_then, and_parts, take-append_seam, activation_fits, answer_fits, fits, wish_fits, needs_event, Plan, IsReadingOf, is_sized}
+use Rattle.bus_semantics.specs.Common.{is_sized_actor, item_fits, made, Letters, actor_text, wanted_by}
+use Rattle.bus_laws.specs.Common.{Actor, Deed, Entry, Version}
 use Rattle.trace_reading.specs.Deeds.{line_at}
 use Rattle.trace_reading.specs.Guess.{deed_in, guess, guess_of}
 use Rattle.trace_reading.proofs.ActorTexts.{actor_read}

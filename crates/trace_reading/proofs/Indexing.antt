@@ -1,20 +1,10 @@
 -- A table that has what stands at some places and behind them, and one place more.
 use Rattle.std.proofs.Common.{◌≡◌, ℕ, suc, ◌+◌, ◌<◌, Bool, true, false, ◌&&◌, cond, List, ◌∷◌, map, length, drop, get_or, bytes_eq, nat_eq, option_map, Option, Some, None, refl, sym, ap, ◌∙◌, arith}
-use Rattle.std.specs.List.{position, position_from, slice_get}
-use Rattle.std.specs.Option.{option_eq, option_map_or}
+use Rattle.bus_semantics.specs.Common.{position, position_from, slice_get, option_eq, option_map_or, slice_get-get_or, slice_get-map, same_number, Plan, Runnable, instance_of, look, Letters}
 use Rattle.std.proofs.Math.Seq.{drop-cons}
 use Rattle.std.proofs.lemmas.Iterator.Adapters.{position_from-zero}
-use Rattle.std.proofs.lemmas.Option.{slice_get-get_or, slice_get-map}
 use Rattle.indexmap.specs.IndexMap.{IndexMap, get}
-use Rattle.rte_value.specs.Values.{same_number}
-use Rattle.bus_semantics.specs.declared.plan.AreaPlan.{AreaPlan}
-use Rattle.bus_semantics.specs.declared.plan.ElemPlan.{ElemPlan}
-use Rattle.bus_semantics.specs.declared.plan.EventPlan.{EventPlan}
-use Rattle.bus_semantics.specs.declared.plan.MachinePlan.{MachinePlan}
-use Rattle.bus_semantics.specs.declared.plan.ModePortPlan.{ModePortPlan}
-use Rattle.bus_semantics.specs.declared.plan.PointPlan.{PointPlan}
-use Rattle.bus_semantics.specs.Plan.{Plan, Runnable, instance_of, look}
-use Rattle.bus_semantics.specs.Spelling.{Letters}
+use Rattle.bus_laws.specs.Common.{AreaPlan, ElemPlan, EventPlan, MachinePlan, ModePortPlan, PointPlan}
 use Rattle.line_fields.proofs.Found.{position-map}
 use Rattle.line_fields.specs.Named.{is_area, is_elem, is_event, is_machine, is_mode_port, is_point, is_runnable, is_text}
 use Rattle.trace_reading.specs.Finding.{home_of_caller, is_result}

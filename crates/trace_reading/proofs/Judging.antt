@@ -1,13 +1,8 @@
 -- An entry that was guessed is read, or none is.
 use Rattle.std.proofs.Common.{◌≡◌, ◌-◌, true, false, ◌&&◌, length, take, bytes_eq, Some, None, sym, ◌∙◌, subst}
-use Rattle.std.proofs.lemmas.Bool.{and_parts, and_from}
-use Rattle.std.proofs.lemmas.Slice.Eq.{bytes_eq-Decides}
-use Rattle.bus_semantics.specs.declared.entries.Entry.{Entry}
-use Rattle.bus_semantics.specs.declared.version.Version.{Version}
-use Rattle.bus_semantics.specs.Plan.{Plan}
-use Rattle.bus_semantics.specs.Reading.{IsReadingOf, item_fits}
-use Rattle.bus_semantics.specs.Run.{Item, idle, made, run_begins, run_closes, unsettled}
-use Rattle.bus_semantics.specs.Spelling.{Letters, entry_text, item_text}
+use Rattle.bus_semantics.specs.Common.{and_parts, and_from, bytes_eq-Decides, Plan, IsReadingOf, item_fits, Item, idle, made, run_begins, run_closes, unsettled, Letters, entry_text}
+use Rattle.bus_semantics.specs.Common.{item_text}
+use Rattle.bus_laws.specs.Common.{Entry, Version}
 use Rattle.trace_reading.specs.Guess.{guess_of}
 use Rattle.trace_reading.proofs.Guessing.{reading_guessed}
 use Rattle.trace_reading.proofs.Naming.{IsNamed}

@@ -1,11 +1,7 @@
 -- The letters of what stands in a line: which there are, and which there are not.
 use Rattle.std.proofs.Common.{◌≡◌, ℕ, ◌<◌, ◌≤◌, Bool, true, false, not, ◌&&◌, ◌||◌, ◌==◌, [], ◌∷◌, length, nat_le, refl, ap, subst, arith}
-use Rattle.std.specs.List.{list_all}
-use Rattle.std.proofs.lemmas.Bool.{and_parts, and_from, eqb-true, leb-true, lt-ltb, or_left}
-use Rattle.bus_semantics.specs.SoundNames.{is_letter, is_name, is_name_part}
+use Rattle.bus_semantics.specs.Common.{list_all, and_parts, and_from, eqb-true, leb-true, lt-ltb, or_left, is_letter, is_name, is_name_part, is_in, Letters}
 use Rattle.bus_semantics.specs.SoundNames as sound
-use Rattle.bus_semantics.specs.SoundPlan.{is_in}
-use Rattle.bus_semantics.specs.Spelling.{Letters}
 use Rattle.line_fields.proofs.Joining.{all-parts, all_more, apart, lacks}
 use Rattle.line_fields.proofs.Parts.{same_parts}
 use Rattle.trace_reading.proofs.Cutting.{are_visible, is_visible}

@@ -1,18 +1,10 @@
 -- The fields of an entry, in which its line is written.
 use Rattle.std.proofs.Common.{◌≡◌, ℕ, true, false, cond, List, [], ◌∷◌, ◌++◌, codes, decimal, Option, Some, None, refl, ap, ◌∙◌, append_assoc}
-use Rattle.std.proofs.lemmas.List.{append-nil}
-use Rattle.rte_value.specs.declared.kinds.Step.{Step}
+use Rattle.bus_semantics.specs.Common.{append-nil, Step, Value, elems_of, machine_itself, Plan, machine_of_port, Letters, actor_text, area_name, deed_text, elem_name, entry_text, event_name}
+use Rattle.bus_semantics.specs.Common.{machine_name, mask_text, mode_port_name, mode_text, point_name, point_text, position_of, value_text}
 use Rattle.rte_value.specs.declared.kinds.Step.TheVariants as step
-use Rattle.rte_value.specs.declared.value.Value.{Value}
-use Rattle.bus_semantics.specs.declared.entries.Actor.{Actor}
-use Rattle.bus_semantics.specs.declared.entries.Deed.{Deed}
+use Rattle.bus_laws.specs.Common.{Actor, Deed, Entry, Version}
 use Rattle.bus_semantics.specs.declared.entries.Deed.TheVariants as deed
-use Rattle.bus_semantics.specs.declared.entries.Entry.{Entry}
-use Rattle.bus_semantics.specs.declared.version.Version.{Version}
-use Rattle.bus_semantics.specs.Lists.{elems_of}
-use Rattle.bus_semantics.specs.Objects.{machine_itself}
-use Rattle.bus_semantics.specs.Plan.{Plan, machine_of_port}
-use Rattle.bus_semantics.specs.Spelling.{Letters, actor_text, area_name, deed_text, elem_name, entry_text, event_name, machine_name, mask_text, mode_port_name, mode_text, point_name, point_text, position_of, value_text}
 use Rattle.trace_reading.proofs.Cutting.{line_of}
 
 -- the word of a deed

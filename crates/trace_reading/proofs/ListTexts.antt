@@ -1,17 +1,11 @@
 -- What a line of a coherent list has in place of a name: its place, and one digit for each element. Both are read back.
-use Rattle.std.proofs.Common.{◌≡◌, ℕ, suc, ◌+◌, ◌*◌, ◌/◌, ◌%◌, ◌^◌, ◌<◌, ◌≤◌, Bool, true, false, ◌&&◌, ◌==◌, not, cond, List, [], ◌∷◌, ◌++◌, length, codes, decimal, Option, Some, None, refl, sym, ap, ◌∙◌, arith}
-use Rattle.std.specs.List.{slice_get}
-use Rattle.std.specs.Option.{option_and_then, option_map_or}
+use Rattle.std.proofs.Common.{◌≡◌, ℕ, suc, ◌+◌, ◌*◌, ◌/◌, ◌%◌, ◌^◌, ◌<◌, ◌≤◌, Bool, true, false, ◌&&◌, ◌==◌, not, cond, List, [], ◌∷◌, ◌++◌, length, codes, decimal, Option, Some, None, refl}
+use Rattle.std.proofs.Common.{sym, ap, ◌∙◌, arith}
+use Rattle.bus_semantics.specs.Common.{slice_get, option_and_then, option_map_or, and_parts, eqb-true, le-leb, lt-ltb, ltb-true, ActKey, elems_of, list_fits, marks_fit, Plan, Runnable}
+use Rattle.bus_semantics.specs.Common.{is_index, lists_sound, mask_text, position_of}
 use Rattle.std.proofs.Math.Nat.{pow-succ'}
-use Rattle.std.proofs.lemmas.Bool.{and_parts, eqb-false, eqb-true, le-leb, lt-ltb, ltb-true}
-use Rattle.rte_value.specs.declared.kinds.ActKey.{ActKey}
-use Rattle.bus_semantics.specs.declared.entries.Actor.TheVariants.{Act}
-use Rattle.bus_semantics.specs.declared.plan.CoherentList.{CoherentList}
-use Rattle.bus_semantics.specs.Lists.{elems_of, list_fits, marks_fit}
-use Rattle.bus_semantics.specs.Plan.{Plan, Runnable}
-use Rattle.bus_semantics.specs.Reading.{is_index}
-use Rattle.bus_semantics.specs.SoundLists.{lists_sound}
-use Rattle.bus_semantics.specs.Spelling.{mask_text, position_of}
+use Rattle.std.proofs.lemmas.Bool.{eqb-false}
+use Rattle.bus_laws.specs.Common.{Act, CoherentList}
 use Rattle.bus_laws.proofs.ListFacts.{Listed, list_number, list_position, lists_before, listed}
 use Rattle.bus_laws.proofs.Thinning.{found_where}
 use Rattle.trace_text.proofs.Places.{elems_few}

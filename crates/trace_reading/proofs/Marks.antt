@@ -2,10 +2,9 @@
 use Rattle.std.proofs.Common.{◌≡◌, ℕ, suc, ◌+◌, ◌/◌, ◌%◌, ◌^◌, ◌<◌, ◌≤◌, Bool, true, false, cond, ◌==◌, nat_lt, List, ◌∷◌, length, drop, get_or, refl, ap, ◌∙◌, arith}
 use Rattle.std.proofs.Math.Nat.{div-lt_iff_lt-mul, pow-le-pow_right}
 use Rattle.std.proofs.Math.Seq.{drop-cons}
-use Rattle.std.proofs.lemmas.Bool.{eq-eqb, eqb-true, lt-ltb, ltb_from_iff}
+use Rattle.bus_semantics.specs.Common.{eq-eqb, eqb-true, lt-ltb, marked, words_at, words_of_all, Plan}
+use Rattle.std.proofs.lemmas.Bool.{ltb_from_iff}
 use Rattle.std.proofs.lemmas.Nat.{pow_pos}
-use Rattle.bus_semantics.specs.Lists.{marked, words_at, words_of_all}
-use Rattle.bus_semantics.specs.Plan.{Plan}
 
 -- the words of the marked elements, by those of the first one
 words_by_first : (p : Plan) (w x : ℕ) (xs : List ℕ) → words_of_all p (marked w (x ∷ xs)) ≡ cond (w % 2 == 1) (words_at p x) 0 + words_of_all p (marked (w / 2) xs)

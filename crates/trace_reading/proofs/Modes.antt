@@ -1,23 +1,12 @@
 -- A mode is read back from its text, and so is a point at which a runnable of an instance calls without waiting.
-use Rattle.std.proofs.Common.{◌≡◌, ℕ, ◌<◌, ◌≤◌, Bool, true, false, not, ◌&&◌, ◌||◌, ◌==◌, cond, List, [], ◌∷◌, length, nat_lt, bytes_eq, codes, get_or, Option, Some, None, inl, inr, refl, sym, ap, ◌∙◌, subst, arith}
-use Rattle.std.specs.List.{list_all, position, position_or_len, slice_get}
-use Rattle.std.specs.Option.{option_map_or}
-use Rattle.std.proofs.lemmas.Bool.{and_parts, and_from, eq-eqb, eqb-true, false_from_ne_true, lt-ltb}
+use Rattle.std.proofs.Common.{◌≡◌, ℕ, ◌<◌, ◌≤◌, Bool, true, false, not, ◌&&◌, ◌||◌, ◌==◌, cond, List, [], ◌∷◌, length, nat_lt, bytes_eq, codes, get_or, Option, Some, None, inl, inr, refl}
+use Rattle.std.proofs.Common.{sym, ap, ◌∙◌, subst, arith}
+use Rattle.bus_semantics.specs.Common.{list_all, position, position_or_len, slice_get, option_map_or, and_parts, and_from, eq-eqb, eqb-true, false_from_ne_true, lt-ltb}
+use Rattle.bus_semantics.specs.Common.{get_or_from_slice_get, slice_get-get_or, slice_get_within, bytes_eq-Decides, same_number, result_point, Plan, every_from, instance_of, look, is_index}
+use Rattle.bus_semantics.specs.Common.{same_operation, is_name, is_pair_name, same_numbers, Letters, mode_text, point_name}
 use Rattle.std.proofs.lemmas.List.Sums.{position_or_len_is}
-use Rattle.std.proofs.lemmas.Option.{get_or_from_slice_get, slice_get-get_or, slice_get_cases, slice_get_within}
-use Rattle.std.proofs.lemmas.Slice.Eq.{bytes_eq-Decides}
-use Rattle.rte_value.specs.Values.{same_number}
-use Rattle.bus_semantics.specs.declared.plan.MachinePlan.{MachinePlan}
-use Rattle.bus_semantics.specs.declared.plan.PointPlan.{PointPlan}
-use Rattle.bus_semantics.specs.declared.version.Version.{Version}
-use Rattle.bus_semantics.specs.declared.version.Version.TheVariants.{One, Two}
-use Rattle.bus_semantics.specs.Owners.{result_point}
-use Rattle.bus_semantics.specs.Plan.{Plan, every_from, instance_of, look}
-use Rattle.bus_semantics.specs.Reading.{is_index}
-use Rattle.bus_semantics.specs.SoundAccesses.{same_operation}
-use Rattle.bus_semantics.specs.SoundNames.{is_name, is_pair_name}
-use Rattle.bus_semantics.specs.SoundPlan.{same_numbers}
-use Rattle.bus_semantics.specs.Spelling.{Letters, mode_text, point_name}
+use Rattle.std.proofs.lemmas.Option.{slice_get_cases}
+use Rattle.bus_laws.specs.Common.{MachinePlan, PointPlan, Version, One, Two}
 use Rattle.bus_laws.proofs.Thinning.{every_at}
 use Rattle.line_fields.proofs.Distinct.{all_at}
 use Rattle.line_fields.specs.Named.{is_text}

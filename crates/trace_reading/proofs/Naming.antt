@@ -1,22 +1,8 @@
 -- What a readable plan has for its names: each finds what it names, and whatever is named by others exists.
 use Rattle.std.proofs.Common.{◌≡◌, Bool, true, not, ◌&&◌, ◌||◌, ◌==◌, cond, length, nat_le, nat_lt, Some}
-use Rattle.std.specs.List.{list_all}
-use Rattle.std.proofs.lemmas.Bool.{and_parts}
-use Rattle.bus_semantics.specs.declared.plan.AreaPlan.{AreaPlan}
-use Rattle.bus_semantics.specs.declared.plan.ElemPlan.{ElemPlan}
-use Rattle.bus_semantics.specs.declared.plan.EventPlan.{EventPlan}
-use Rattle.bus_semantics.specs.declared.plan.MachinePlan.{MachinePlan}
-use Rattle.bus_semantics.specs.declared.plan.ModePortPlan.{ModePortPlan}
-use Rattle.bus_semantics.specs.declared.plan.PointPlan.{PointPlan}
-use Rattle.bus_semantics.specs.declared.plan.ServerPlan.{ServerPlan}
-use Rattle.bus_semantics.specs.declared.script.Mapping.{Mapping}
-use Rattle.bus_semantics.specs.Plan.{Plan, Runnable, every_from}
-use Rattle.bus_semantics.specs.Sound.{IsSound}
-use Rattle.bus_semantics.specs.SoundAccesses.{points_arranged, same_operation}
-use Rattle.bus_semantics.specs.SoundLists.{lists_sound}
-use Rattle.bus_semantics.specs.SoundNames.{is_env_path, is_name, is_pair_name, is_path, names_distinct, names_fit, none_is_env, parts}
-use Rattle.bus_semantics.specs.SoundPlan.{instance_exists, is_variable}
-use Rattle.bus_semantics.specs.SoundPrograms.{runnable_sound}
+use Rattle.bus_semantics.specs.Common.{list_all, and_parts, Plan, Runnable, every_from, IsSound, points_arranged, same_operation, lists_sound, is_env_path, is_name, is_pair_name, is_path}
+use Rattle.bus_semantics.specs.Common.{names_distinct, names_fit, none_is_env, parts, instance_exists, is_variable, runnable_sound}
+use Rattle.bus_laws.specs.Common.{AreaPlan, ElemPlan, EventPlan, MachinePlan, ModePortPlan, PointPlan, ServerPlan, Mapping}
 use Rattle.line_fields.specs.Named.{FindsAreas, FindsElems, FindsEvents, FindsInstances, FindsMachines, FindsModePorts, FindsModes, FindsPoints, FindsRunnables}
 use Rattle.line_fields.proofs.Found.{finds_areas, finds_elems, finds_events, finds_instances, finds_machines, finds_mode_ports, finds_modes, finds_points, finds_runnables}
 use Rattle.trace_reading.specs.Readable.{IsReadable}

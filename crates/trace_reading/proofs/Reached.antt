@@ -1,15 +1,8 @@
 -- A trace has one verdict.
 use Rattle.std.proofs.Common.{◌≡◌, ◌≢◌, ◌⊎◌, inl, inr, ℕ, true, List, [], ◌∷◌, ◌++◌, refl, sym, ap, ◌∙◌, subst, append_assoc}
-use Rattle.std.proofs.lemmas.Bool.{and_parts}
-use Rattle.std.proofs.lemmas.List.{append-nil}
-use Rattle.bus_semantics.specs.declared.script.Line.{Line}
-use Rattle.bus_semantics.specs.declared.script.Mapping.{Mapping}
-use Rattle.bus_semantics.specs.declared.version.Version.{Version}
-use Rattle.bus_semantics.specs.declared.version.Version.TheVariants.{One, Two}
-use Rattle.bus_semantics.specs.Plan.{Plan}
-use Rattle.bus_semantics.specs.Reading.{item_fits}
-use Rattle.bus_semantics.specs.Run.{Item, made, run_begins, run_closes, Session, IsSessionOf, IsBegunRunOf, orders_of, orders_of_entry, a_run}
-use Rattle.bus_semantics.specs.Spelling.{Letters, header, item_text, spelling_of}
+use Rattle.bus_semantics.specs.Common.{and_parts, append-nil, Plan, item_fits, Item, made, run_begins, run_closes, Session, IsSessionOf, IsBegunRunOf, orders_of, orders_of_entry, a_run}
+use Rattle.bus_semantics.specs.Common.{Letters, header, item_text, spelling_of}
+use Rattle.bus_laws.specs.Common.{Line, Mapping, Version, One, Two}
 use Rattle.trace_reading.specs.Reads.{ItemsHaveOneLine, LinesHaveOneReading}
 use Rattle.trace_reading.specs.declared.checked.Checked.{Checked}
 use Rattle.trace_reading.specs.declared.checked.Checked.TheVariants.{Legal, BadLine, Illegal}

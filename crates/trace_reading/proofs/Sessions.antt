@@ -1,17 +1,8 @@
 -- A line is that of one item, and a text that of one session in one version.
 use Rattle.std.proofs.Common.{◌≡◌, ◌+◌, true, false, not, ◌==◌, List, [], ◌∷◌, ◌++◌, length, bytes_eq, codes, Some, None, refl, sym, ap, ◌∙◌, append_assoc, length-append, arith}
-use Rattle.std.specs.List.{list_all}
-use Rattle.std.proofs.lemmas.Bool.{and_parts, and_from}
-use Rattle.std.proofs.lemmas.List.{append-nil}
-use Rattle.bus_semantics.specs.declared.entries.Entry.{Entry}
-use Rattle.bus_semantics.specs.declared.version.Version.{Version}
-use Rattle.bus_semantics.specs.declared.version.Version.TheVariants.{One, Two}
-use Rattle.bus_semantics.specs.declared.script.Mapping.{Mapping}
-use Rattle.bus_semantics.specs.Plan.{Plan}
-use Rattle.bus_semantics.specs.Reading.{IsReadingOf, item_fits}
-use Rattle.bus_semantics.specs.Run.{Item, Session, idle, made, run_begins, run_closes, unsettled}
-use Rattle.bus_semantics.specs.Sound.{IsSound}
-use Rattle.bus_semantics.specs.Spelling.{Letters, actor_text, item_text, spelling_of}
+use Rattle.bus_semantics.specs.Common.{list_all, and_parts, and_from, append-nil, Plan, IsReadingOf, item_fits, Item, Session, idle, made, run_begins, run_closes, unsettled, IsSound}
+use Rattle.bus_semantics.specs.Common.{Letters, actor_text, item_text, spelling_of}
+use Rattle.bus_laws.specs.Common.{Entry, Version, One, Two, Mapping}
 use Rattle.line_fields.specs.Texts.{parts}
 use Rattle.line_fields.proofs.Joining.{all-append, joined, lacks, more, parts-join, parts-one}
 use Rattle.trace_reading.specs.Cuts.{behind}

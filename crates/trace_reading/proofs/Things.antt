@@ -1,21 +1,10 @@
 -- What an item names is found by its name.
 use Rattle.std.proofs.Common.{◌≡◌, ℕ, ◌<◌, ◌≤◌, Bool, true, false, ◌&&◌, List, [], length, nat_lt, Option, Some, None, inl, inr, refl, sym, ap, ◌∙◌, arith}
-use Rattle.std.specs.List.{position, slice_get}
-use Rattle.std.specs.Option.{option_map_or}
-use Rattle.std.proofs.lemmas.Bool.{and_parts, ltb-true}
+use Rattle.bus_semantics.specs.Common.{position, slice_get, option_map_or, and_parts, ltb-true, same_number-Decides, same_number, area_fits, elem_fits, event_fits, mode_port_fits, own_point}
+use Rattle.bus_semantics.specs.Common.{switch_fits, Plan, caller_of, instance_of, look, runnable_of_event, is_index, Letters, area_name, elem_name, event_name, machine_name, mode_port_name}
+use Rattle.bus_semantics.specs.Common.{point_name}
 use Rattle.std.proofs.lemmas.Option.{slice_get_cases}
-use Rattle.rte_value.specs.EqualKeys.{same_number-Decides}
-use Rattle.rte_value.specs.Values.{same_number}
-use Rattle.bus_semantics.specs.declared.plan.AreaPlan.{AreaPlan}
-use Rattle.bus_semantics.specs.declared.plan.ElemPlan.{ElemPlan}
-use Rattle.bus_semantics.specs.declared.plan.EventPlan.{EventPlan}
-use Rattle.bus_semantics.specs.declared.plan.MachinePlan.{MachinePlan}
-use Rattle.bus_semantics.specs.declared.plan.ModePortPlan.{ModePortPlan}
-use Rattle.bus_semantics.specs.declared.plan.PointPlan.{PointPlan}
-use Rattle.bus_semantics.specs.Owners.{area_fits, elem_fits, event_fits, mode_port_fits, own_point, switch_fits}
-use Rattle.bus_semantics.specs.Plan.{Plan, caller_of, instance_of, look, runnable_of_event}
-use Rattle.bus_semantics.specs.Reading.{is_index}
-use Rattle.bus_semantics.specs.Spelling.{Letters, area_name, elem_name, event_name, machine_name, mode_port_name, point_name}
+use Rattle.bus_laws.specs.Common.{AreaPlan, ElemPlan, EventPlan, MachinePlan, ModePortPlan, PointPlan}
 use Rattle.line_fields.specs.Named.{is_area, is_elem, is_event, is_machine, is_mode_port, is_point}
 use Rattle.trace_reading.specs.Fields.{numbered}
 use Rattle.trace_reading.specs.Finding.{area_at, elem_at, event_at, machine_at, mode_port_at, point_at}

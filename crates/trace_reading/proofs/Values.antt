@@ -1,14 +1,8 @@
 -- A value is read back from its text, and so are numbers.
 use Rattle.std.proofs.Common.{◌≡◌, ℕ, ℤ, ◌^◌, ◌<◌, ◌≤◌, Bool, true, false, ◌&&◌, cond, List, [], length, decimal, nat_le, replicate, ◌-◌, pos, Option, Some, None, refl, sym, ap, ◌∙◌, subst, arith}
 use Rattle.std.specs.Prelude.{IfSome, IfNone}
-use Rattle.std.specs.List.{list_all}
-use Rattle.std.proofs.lemmas.Bool.{and_parts, and_from, leb-true, le-leb, ltb-true}
-use Rattle.std.proofs.Math.Seq.{take-append_seam}
-use Rattle.rte_value.specs.declared.value.Value.{Value}
-use Rattle.rte_value.specs.EqualValues.{Value-by_words, length-words_of}
-use Rattle.rte_value.specs.Values.{words_of}
-use Rattle.bus_semantics.specs.Reading.{are_words, is_byte, is_index}
-use Rattle.bus_semantics.specs.Spelling.{Letters, value_text}
+use Rattle.bus_semantics.specs.Common.{list_all, and_parts, and_from, leb-true, le-leb, ltb-true, take-append_seam, Value, Value-by_words, length-words_of, words_of, are_words, is_byte}
+use Rattle.bus_semantics.specs.Common.{is_index, Letters, value_text}
 use Rattle.line_fields.specs.Numbers.{are_held, is_held, is_number, is_value, number_in, words_in}
 use Rattle.line_fields.proofs.Spelt.{decimal_back, decimal_is_number}
 use Rattle.line_fields.proofs.Words.{value_back}

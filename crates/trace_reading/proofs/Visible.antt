@@ -1,30 +1,12 @@
 -- No field of a line of a trace over a sound plan has a space or a newline.
 use Rattle.std.proofs.Common.{◌≡◌, ℕ, ℤ, zero, suc, ◌+◌, ◌/◌, ◌%◌, pos, negsuc, Bool, true, false, ◌&&◌, ◌==◌, cond, List, [], ◌∷◌, ◌++◌, nat_lt, codes, decimal, Option, Some, None, refl, arith}
-use Rattle.std.specs.Fmt.{digit_glyph, digits, digits_onto, signed_decimal}
-use Rattle.std.specs.List.{list_all}
-use Rattle.std.proofs.lemmas.Bool.{and_from, and_parts, lt-ltb}
-use Rattle.rte_value.specs.declared.kinds.Step.{Step}
+use Rattle.bus_semantics.specs.Common.{digits, list_all, and_from, and_parts, lt-ltb, Step, Value, words_of, elems_of, machine_itself, Plan, Runnable, look, machine_of_port, is_name}
+use Rattle.bus_semantics.specs.Common.{is_pair_name, is_path, is_variable, Letters, actor_text, area_name, caller_text, elem_name, event_name, instance_text, key_text, machine_name}
+use Rattle.bus_semantics.specs.Common.{machine_text, mask_text, mode_port_name, mode_text, more_words, point_name, point_text, position_of, runnable_text, value_text, words_text}
+use Rattle.std.specs.Fmt.{digit_glyph, digits_onto, signed_decimal}
 use Rattle.rte_value.specs.declared.kinds.Step.TheVariants as step
-use Rattle.rte_value.specs.declared.value.Value.{Value}
-use Rattle.rte_value.specs.Values.{words_of}
-use Rattle.bus_semantics.specs.declared.plan.AreaPlan.{AreaPlan}
-use Rattle.bus_semantics.specs.declared.plan.ElemPlan.{ElemPlan}
-use Rattle.bus_semantics.specs.declared.plan.EventPlan.{EventPlan}
-use Rattle.bus_semantics.specs.declared.plan.MachinePlan.{MachinePlan}
-use Rattle.bus_semantics.specs.declared.plan.ModePortPlan.{ModePortPlan}
-use Rattle.bus_semantics.specs.declared.plan.PointPlan.{PointPlan}
-use Rattle.bus_semantics.specs.declared.entries.Actor.{Actor}
-use Rattle.bus_semantics.specs.declared.entries.Actor.TheVariants.{Env, Machine, Act}
-use Rattle.bus_semantics.specs.declared.entries.Deed.{Deed}
+use Rattle.bus_laws.specs.Common.{AreaPlan, ElemPlan, EventPlan, MachinePlan, ModePortPlan, PointPlan, Actor, Env, Machine, Act, Deed, Version, One, Two}
 use Rattle.bus_semantics.specs.declared.entries.Deed.TheVariants as deed
-use Rattle.bus_semantics.specs.declared.version.Version.{Version}
-use Rattle.bus_semantics.specs.declared.version.Version.TheVariants.{One, Two}
-use Rattle.bus_semantics.specs.Lists.{elems_of}
-use Rattle.bus_semantics.specs.Objects.{machine_itself}
-use Rattle.bus_semantics.specs.Plan.{Plan, Runnable, look, machine_of_port}
-use Rattle.bus_semantics.specs.SoundNames.{is_name, is_pair_name, is_path}
-use Rattle.bus_semantics.specs.SoundPlan.{is_variable}
-use Rattle.bus_semantics.specs.Spelling.{Letters, actor_text, area_name, caller_text, elem_name, event_name, instance_text, key_text, machine_name, machine_text, mask_text, mode_port_name, mode_text, more_words, point_name, point_text, position_of, runnable_text, value_text, words_text}
 use Rattle.line_fields.proofs.Joining.{all-append}
 use Rattle.trace_reading.proofs.Cutting.{are_visible, is_visible}
 use Rattle.trace_reading.proofs.Letters.{name_visible, pair_visible, path_visible}

@@ -1,10 +1,7 @@
 -- The actor that a field names, and the point.
 use Rattle.std.specs.Prelude.{ℕ, bytes_eq, codes, if◌then◌else◌, Option, Some, None, option_map, option_and_then}
-use Rattle.rte_value.specs.declared.kinds.ActKey.{ActKey}
-use Rattle.bus_semantics.specs.declared.entries.Actor.{Actor}
-use Rattle.bus_semantics.specs.declared.entries.Actor.TheVariants.{Env, Machine, Act}
-use Rattle.bus_semantics.specs.Plan.{Plan}
-use Rattle.bus_semantics.specs.Spelling.{Letters}
+use Rattle.bus_semantics.specs.Common.{ActKey, Plan, Letters}
+use Rattle.bus_laws.specs.Common.{Actor, Env, Machine, Act}
 use Rattle.trace_reading.specs.Cuts.{before, behind}
 use Rattle.trace_reading.specs.Fields.{numbered}
 use Rattle.trace_reading.specs.Finding.{instance_at, machine_at, point_at, runnable_at}

@@ -1,16 +1,9 @@
 -- The deed of a line, by its fields.
 use Rattle.std.specs.Prelude.{ℕ, bytes_eq, codes, if◌then◌else◌, Option, Some, None, option_and_then}
-use Rattle.rte_value.specs.declared.kinds.Step.{Step}
+use Rattle.bus_semantics.specs.Common.{Step, Plan, instance_of, machine_of_port, machine_itself, Letters}
 use Rattle.rte_value.specs.declared.kinds.Step.TheVariants as step
-use Rattle.bus_semantics.specs.declared.entries.Actor.{Actor}
-use Rattle.bus_semantics.specs.declared.entries.Actor.TheVariants.{Env, Machine, Act}
-use Rattle.bus_semantics.specs.declared.entries.Deed.{Deed}
+use Rattle.bus_laws.specs.Common.{Actor, Env, Machine, Act, Deed, Version, One, Two}
 use Rattle.bus_semantics.specs.declared.entries.Deed.TheVariants as deed
-use Rattle.bus_semantics.specs.declared.version.Version.{Version}
-use Rattle.bus_semantics.specs.declared.version.Version.TheVariants.{One, Two}
-use Rattle.bus_semantics.specs.Plan.{Plan, instance_of, machine_of_port}
-use Rattle.bus_semantics.specs.Objects.{machine_itself}
-use Rattle.bus_semantics.specs.Spelling.{Letters}
 use Rattle.trace_reading.specs.declared.words.CallWord.{CallWord}
 use Rattle.trace_reading.specs.declared.words.CallWord.TheVariants as call
 use Rattle.trace_reading.specs.declared.words.DataWord.{DataWord}

@@ -1,12 +1,7 @@
 -- Fields that are numbers and values. None is a field that no item of a trace has.
 use Rattle.std.specs.Prelude.{◌≡◌, ℕ, ℤ, ◌≤◌, ◌-◌, List, [], length, replicate, pos, Bool, true, false, ◌&&◌, nat_le, if◌then◌else◌, Option, Some, None}
 use Rattle.std.proofs.Common.{refl, sym, ap}
-use Rattle.std.proofs.lemmas.Bool.{leb-true}
-use Rattle.std.proofs.Math.Seq.{take-append_seam}
-use Rattle.rte_value.specs.declared.value.Value.{Value}
-use Rattle.rte_value.specs.Padding.{padded}
-use Rattle.bus_semantics.specs.Reading.{is_byte, is_index}
-use Rattle.bus_semantics.specs.Spelling.{Letters}
+use Rattle.bus_semantics.specs.Common.{leb-true, take-append_seam, Value, padded, is_byte, is_index, Letters}
 use Rattle.line_fields.specs.Numbers.{are_held, is_number, is_value, number_in, words_in}
 
 -- a position in a list of the plan

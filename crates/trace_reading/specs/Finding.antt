@@ -1,10 +1,7 @@
 -- What a name finds in a plan: the number of the first thing of that name.
 use Rattle.std.specs.Prelude.{ℕ, Bool, ◌&&◌, bytes_eq, codes, length, if◌then◌else◌, Option, Some, None, position}
-use Rattle.rte_value.specs.Values.{same_number}
-use Rattle.bus_semantics.specs.declared.plan.PointPlan.{PointPlan}
-use Rattle.bus_semantics.specs.declared.plan.MachinePlan.{MachinePlan}
-use Rattle.bus_semantics.specs.Plan.{Plan, look, instance_of}
-use Rattle.bus_semantics.specs.Spelling.{Letters}
+use Rattle.bus_semantics.specs.Common.{same_number, Plan, look, instance_of, Letters}
+use Rattle.bus_laws.specs.Common.{PointPlan, MachinePlan}
 use Rattle.line_fields.specs.Named.{is_area, is_elem, is_event, is_machine, is_mode_port, is_point, is_runnable, is_text}
 use Rattle.trace_reading.specs.Fields.{numbered}
 

@@ -1,11 +1,7 @@
 -- The entry that a line may be the text of: if it is that of any, then of this one.
 use Rattle.std.specs.Prelude.{Option, Some, None, option_and_then}
-use Rattle.bus_semantics.specs.declared.entries.Actor.{Actor}
-use Rattle.bus_semantics.specs.declared.entries.Deed.{Deed}
-use Rattle.bus_semantics.specs.declared.entries.Entry.{Entry}
-use Rattle.bus_semantics.specs.declared.version.Version.{Version}
-use Rattle.bus_semantics.specs.Plan.{Plan}
-use Rattle.bus_semantics.specs.Spelling.{Letters}
+use Rattle.bus_laws.specs.Common.{Actor, Deed, Entry, Version}
+use Rattle.bus_semantics.specs.Common.{Plan, Letters}
 use Rattle.trace_reading.specs.declared.words.CallWord.{CallWord}
 use Rattle.trace_reading.specs.declared.words.DataWord.{DataWord}
 use Rattle.trace_reading.specs.declared.words.ListWord.{ListWord}

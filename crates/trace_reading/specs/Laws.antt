@@ -1,11 +1,7 @@
 -- Laws of verdicts.
 use Rattle.std.specs.Prelude.{◌≡◌, ◌↔◌, ℕ, List, ◌∷◌, true}
-use Rattle.bus_semantics.specs.declared.script.Line.{Line}
-use Rattle.bus_semantics.specs.declared.script.Mapping.{Mapping}
-use Rattle.bus_semantics.specs.Plan.{Plan}
-use Rattle.bus_semantics.specs.Reading.{item_fits}
-use Rattle.bus_semantics.specs.Run.{Item, Session, IsBegunRunOf}
-use Rattle.bus_semantics.specs.Spelling.{Letters}
+use Rattle.bus_laws.specs.Common.{Line, Mapping}
+use Rattle.bus_semantics.specs.Common.{Plan, item_fits, Item, Session, IsBegunRunOf, Letters}
 use Rattle.trace_reading.specs.declared.checked.Checked.{Checked}
 use Rattle.trace_reading.specs.Refusals.{IsAccepted, IsRefused}
 use Rattle.trace_reading.specs.Verdicts.{IsVerdict}

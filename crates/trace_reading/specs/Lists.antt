@@ -1,11 +1,8 @@
 -- The deed of a line that is done with a coherent list. A list has no name: it is found by its place among the lists of its runnable.
 use Rattle.std.specs.Prelude.{ℕ, ◌+◌, ◌*◌, [], ◌∷◌, length, slice_get, nat_le, ◌==◌, if◌then◌else◌, Option, Some, None, option_and_then}
-use Rattle.bus_semantics.specs.declared.entries.Actor.{Actor}
-use Rattle.bus_semantics.specs.declared.entries.Actor.TheVariants.{Env, Machine, Act}
-use Rattle.bus_semantics.specs.declared.entries.Deed.{Deed}
+use Rattle.bus_laws.specs.Common.{Actor, Env, Machine, Act, Deed}
 use Rattle.bus_semantics.specs.declared.entries.Deed.TheVariants as deed
-use Rattle.bus_semantics.specs.Plan.{Plan, Runnable, look}
-use Rattle.bus_semantics.specs.Spelling.{Letters}
+use Rattle.bus_semantics.specs.Common.{Plan, Runnable, look, Letters}
 use Rattle.trace_reading.specs.declared.words.ListWord.{ListWord}
 use Rattle.trace_reading.specs.declared.words.ListWord.TheVariants as listed
 use Rattle.trace_reading.specs.Deeds.{Line}

@@ -1,15 +1,7 @@
 -- What reading needs of a plan; every sound plan has it.
 use Rattle.std.specs.Prelude.{◌≡◌, length, true, nat_lt}
-use Rattle.std.specs.List.{list_all}
-use Rattle.bus_semantics.specs.declared.plan.ModePortPlan.{ModePortPlan}
-use Rattle.bus_semantics.specs.declared.script.Mapping.{Mapping}
-use Rattle.bus_semantics.specs.Plan.{Plan, every_from}
-use Rattle.bus_semantics.specs.Sound.{IsSound}
-use Rattle.bus_semantics.specs.SoundAccesses.{points_arranged, points_fit}
-use Rattle.bus_semantics.specs.SoundLists.{lists_sound}
-use Rattle.bus_semantics.specs.SoundNames.{names_distinct, names_fit, none_is_env}
-use Rattle.bus_semantics.specs.SoundPlan.{instances_exist}
-use Rattle.bus_semantics.specs.SoundPrograms.{runnable_sound}
+use Rattle.bus_semantics.specs.Common.{list_all, Plan, every_from, IsSound, points_arranged, points_fit, lists_sound, names_distinct, names_fit, none_is_env, instances_exist, runnable_sound}
+use Rattle.bus_laws.specs.Common.{ModePortPlan, Mapping}
 
 -- names are short, each once and none `env`; what others name is there; points are those of the runnables that call at them; and
 -- coherent lists are sound

@@ -1,12 +1,7 @@
 -- What a line is read as.
 use Rattle.std.specs.Prelude.{◌≡◌, ◌==◌, ◌++◌, codes, not, true, Option, Some, None}
-use Rattle.std.specs.List.{list_all}
-use Rattle.bus_semantics.specs.declared.entries.Entry.{Entry}
-use Rattle.bus_semantics.specs.declared.version.Version.{Version}
-use Rattle.bus_semantics.specs.Plan.{Plan}
-use Rattle.bus_semantics.specs.Reading.{IsReadingOf, item_fits}
-use Rattle.bus_semantics.specs.Run.{Item, Session, idle, made, run_begins, run_closes, unsettled}
-use Rattle.bus_semantics.specs.Spelling.{Letters, Spells, item_text}
+use Rattle.bus_semantics.specs.Common.{list_all, Plan, IsReadingOf, item_fits, Item, Session, idle, made, run_begins, run_closes, unsettled, Letters, Spells, item_text}
+use Rattle.bus_laws.specs.Common.{Entry, Version}
 use Rattle.trace_reading.specs.declared.reading.LineRead.{LineRead}
 use Rattle.trace_reading.specs.declared.reading.LineRead.TheVariants as read
 

@@ -2,12 +2,8 @@
 -- order: script and marks (16), the actor's program (6), what the bus answers (7 to 13), closing words (15). Numbers and order are this
 -- project's own; what each clause says of an entry is the standard's, as the files of `bus_semantics` say. Sessions stand the newest first.
 use Rattle.std.specs.Prelude.{◌≡◌, ◌⊎◌, ℕ, List, ◌∷◌, true, Some, None}
-use Rattle.bus_semantics.specs.declared.script.Line.{Line}
-use Rattle.bus_semantics.specs.declared.script.Mapping.{Mapping}
-use Rattle.bus_semantics.specs.declared.entries.Entry.{Entry}
-use Rattle.bus_semantics.specs.Plan.{Plan}
-use Rattle.bus_semantics.specs.Legal.{broken_clause}
-use Rattle.bus_semantics.specs.Run.{Closing, Item, made, run_begins, run_closes, Session, history_of, is_inside, IsBeginningOf, Holds}
+use Rattle.bus_laws.specs.Common.{Line, Mapping, Entry}
+use Rattle.bus_semantics.specs.Common.{Plan, broken_clause, Closing, Item, made, run_begins, run_closes, Session, history_of, is_inside, IsBeginningOf, Holds}
 
 -- a closing word stands inside a run line, and holds there
 pub record Closes (p : Plan) (m : Mapping) (s : Session) (word : Closing) : Type 0 where

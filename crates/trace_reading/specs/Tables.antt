@@ -1,18 +1,8 @@
 -- What has names in a plan, and tables of them.
 use Rattle.std.specs.Prelude.{◌≡◌, ℕ, List, map, Bool, false, ◌&&◌, bytes_eq, nat_eq, if◌then◌else◌, Option, Some, None}
-use Rattle.std.specs.Borrow.{Bor}
-use Rattle.std.specs.List.{position}
-use Rattle.std.specs.Option.{option_eq}
+use Rattle.bus_semantics.specs.Common.{Bor, position, option_eq, same_number, Plan, Runnable, instance_of, look, Letters}
 use Rattle.indexmap.specs.IndexMap.{IndexMap, get}
-use Rattle.rte_value.specs.Values.{same_number}
-use Rattle.bus_semantics.specs.declared.plan.AreaPlan.{AreaPlan}
-use Rattle.bus_semantics.specs.declared.plan.ElemPlan.{ElemPlan}
-use Rattle.bus_semantics.specs.declared.plan.EventPlan.{EventPlan}
-use Rattle.bus_semantics.specs.declared.plan.MachinePlan.{MachinePlan}
-use Rattle.bus_semantics.specs.declared.plan.ModePortPlan.{ModePortPlan}
-use Rattle.bus_semantics.specs.declared.plan.PointPlan.{PointPlan}
-use Rattle.bus_semantics.specs.Plan.{Plan, Runnable, instance_of, look}
-use Rattle.bus_semantics.specs.Spelling.{Letters}
+use Rattle.bus_laws.specs.Common.{AreaPlan, ElemPlan, EventPlan, MachinePlan, ModePortPlan, PointPlan}
 use Rattle.trace_reading.specs.declared.tables.Kind.{Kind}
 use Rattle.trace_reading.specs.declared.tables.Kind.TheVariants.{Instance, Runnable as a_runnable, Elem, Point, Result, Area, Machine, ModePort, Event}
 use Rattle.trace_reading.specs.Finding.{home_of_caller}

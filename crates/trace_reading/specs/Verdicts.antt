@@ -1,14 +1,8 @@
 -- What the check calls a trace, which is this project's own: legal, or refused at its first line that does not go on as a legal run of the
 -- script may. Line 1 is the header, and each item has one line more. Sessions stand the newest first.
 use Rattle.std.specs.Prelude.{◌≡◌, ◌≢◌, ◌⊎◌, ◌+◌, ℕ, List, [], ◌++◌, length, true}
-use Rattle.std.specs.List.{list_all}
-use Rattle.bus_semantics.specs.declared.script.Line.{Line}
-use Rattle.bus_semantics.specs.declared.script.Mapping.{Mapping}
-use Rattle.bus_semantics.specs.declared.version.Version.{Version}
-use Rattle.bus_semantics.specs.Plan.{Plan}
-use Rattle.bus_semantics.specs.Reading.{item_fits}
-use Rattle.bus_semantics.specs.Run.{Item, Session, IsSessionOf, IsRunOf, IsBegunRunOf}
-use Rattle.bus_semantics.specs.Spelling.{Letters, Spells, header, item_text, spelling_of}
+use Rattle.bus_semantics.specs.Common.{list_all, Plan, item_fits, Item, Session, IsSessionOf, IsRunOf, IsBegunRunOf, Letters, Spells, header, item_text, spelling_of}
+use Rattle.bus_laws.specs.Common.{Line, Mapping, Version}
 use Rattle.trace_reading.specs.declared.checked.Checked.{Checked}
 use Rattle.trace_reading.specs.declared.checked.Checked.TheVariants.{Legal, BadLine, Illegal}
 use Rattle.trace_reading.specs.Refusals.{IsRefused}

@@ -1,9 +1,9 @@
 //! What was done, with what the bus answered.
 
 ghost use Rattle.std.specs.Prelude.{◌≡◌};
-ghost use Rattle.bus_semantics.specs.Plan.{plan_of};
-ghost use Rattle.bus_semantics.specs.Objects.{machine_itself};
-ghost use Rattle.trace_reading.specs.Deeds.{call_deed, call_deed_at, called_at, caller_itself, data_deed, data_deed_at, home_of, mode_at, mode_deed, plain_deed, seen_deed, start_deed, step_in, switch_deed};
+ghost use Rattle.bus_semantics.specs.Common.{plan_of, machine_itself};
+ghost use Rattle.trace_reading.specs.Deeds.{call_deed, call_deed_at, called_at, caller_itself, data_deed, data_deed_at, home_of, mode_at, mode_deed, plain_deed, seen_deed, start_deed};
+ghost use Rattle.trace_reading.specs.Deeds.{step_in, switch_deed};
 ghost use Rattle.trace_reading.specs.Pieces.{line_of};
 
 use crate::actors::point_in;

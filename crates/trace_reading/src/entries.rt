@@ -1,12 +1,9 @@
 //! Entries that fit.
 
 ghost use Rattle.std.specs.Prelude.{◌≡◌};
-ghost use Rattle.rte_value.specs.Values.{words_of};
+ghost use Rattle.bus_semantics.specs.Common.{words_of, activation_fits, answer_fits, fits, phase_fits, start_fits, needs_event, plan_of};
 ghost use Rattle.bus_semantics.specs.declared.entries.Actor.{Actor};
 ghost use Rattle.bus_semantics.specs.declared.entries.Deed.TheVariants.{Mode};
-ghost use Rattle.bus_semantics.specs.Fitting.{activation_fits, answer_fits, fits, phase_fits, start_fits};
-ghost use Rattle.bus_semantics.specs.History.{needs_event};
-ghost use Rattle.bus_semantics.specs.Plan.{plan_of};
 
 use crate::looking::modes_of;
 use crate::owners::key_fits;

@@ -1,8 +1,7 @@
 //! Laws of traces.
 
 ghost use Rattle.bus_semantics.specs.declared.script.Mapping.{Mapping};
-ghost use Rattle.bus_semantics.specs.Plan.{Plan};
-ghost use Rattle.bus_semantics.specs.Sound.{IsSound};
+ghost use Rattle.bus_semantics.specs.Common.{Plan, IsSound};
 ghost use Rattle.trace_reading.specs.Readable.{SoundPlansAreReadable};
 ghost use Rattle.trace_reading.specs.Reads.{ItemsHaveOneLine, LinesHaveOneReading, SessionsHaveOneText, TextsHaveOneSession, TextsHaveOneVersion};
 

@@ -1,9 +1,7 @@
 //! Coherent lists: whose they are, and what a publication of one holds.
 
 ghost use Rattle.std.specs.Prelude.{◌≡◌, ◌≤◌, ◌*◌, ◌%◌, ◌==◌, ◌&&◌, if◌then◌else◌, false, length};
-ghost use Rattle.rte_value.specs.Values.{words_of};
-ghost use Rattle.bus_semantics.specs.Lists.{elems_of, list_fits, marked, marks_fit, words_at, words_of_all};
-ghost use Rattle.bus_semantics.specs.Plan.{plan_of};
+ghost use Rattle.bus_semantics.specs.Common.{words_of, elems_of, list_fits, marked, marks_fit, words_at, words_of_all, plan_of};
 
 use bus_semantics::BusPlan;
 use rte_value::Value;

@@ -2,9 +2,7 @@
 
 ghost use Rattle.std.specs.Prelude.{◌≡◌};
 ghost use Rattle.bus_semantics.specs.declared.entries.Actor.TheVariants.{Act};
-ghost use Rattle.bus_semantics.specs.Plan.{caller_of, plan_of, queue_of, runnable_of_event};
-ghost use Rattle.bus_semantics.specs.Objects.{served_by};
-ghost use Rattle.bus_semantics.specs.Owners.{modes_of};
+ghost use Rattle.bus_semantics.specs.Common.{caller_of, plan_of, queue_of, runnable_of_event, served_by, modes_of};
 ghost use Rattle.trace_reading.specs.Finding.{home_of_caller};
 
 use bus_semantics::BusPlan;

@@ -1,9 +1,8 @@
 //! Whose names are whose. `home` is an instance, or None for the outer ports.
 
 ghost use Rattle.std.specs.Prelude.{◌≡◌, ◌&&◌, not};
-ghost use Rattle.rte_value.specs.Values.{words_of};
-ghost use Rattle.bus_semantics.specs.Plan.{plan_of};
-ghost use Rattle.bus_semantics.specs.Owners.{area_fits, elem_fits, event_fits, holds, is_queued, is_readable, is_unqueued, is_writable, key_fits, mode_port_fits, own_point, result_point, serves_directly, switch_fits};
+ghost use Rattle.bus_semantics.specs.Common.{words_of, plan_of, area_fits, elem_fits, event_fits, holds, is_queued, is_readable, is_unqueued, is_writable, key_fits, mode_port_fits};
+ghost use Rattle.bus_semantics.specs.Common.{own_point, result_point, serves_directly, switch_fits};
 
 use crate::looking::{caller_of, queue_of, runnable_of_event, served_by};
 use bus_semantics::{BusPlan, ElemKind, ElemPlan};

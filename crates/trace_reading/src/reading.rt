@@ -1,11 +1,7 @@
 //! A line, read back.
 
 ghost use Rattle.std.specs.Prelude.{◌≡◌, ◌&&◌, ◌-◌, ◌++◌, IfOk, IfSome, bytes_eq, length, take, true};
-ghost use Rattle.bus_semantics.specs.Fitting.{fits};
-ghost use Rattle.bus_semantics.specs.Plan.{plan_of};
-ghost use Rattle.bus_semantics.specs.Reading.{item_fits};
-ghost use Rattle.bus_semantics.specs.Run.{made};
-ghost use Rattle.bus_semantics.specs.Spelling.{entry_text};
+ghost use Rattle.bus_semantics.specs.Common.{fits, plan_of, item_fits, made, entry_text};
 ghost use Rattle.trace_reading.specs.Readable.{IsReadable};
 ghost use Rattle.trace_reading.specs.Reads.{BeginsWith, Reads, ReadsEntry};
 

@@ -1,8 +1,7 @@
 //! Laws of what a trace is.
 
 ghost use Rattle.bus_semantics.specs.declared.script.Mapping.{Mapping};
-ghost use Rattle.bus_semantics.specs.Plan.{Plan};
-ghost use Rattle.bus_semantics.specs.Sound.{IsSound};
+ghost use Rattle.bus_semantics.specs.Common.{Plan, IsSound};
 ghost use Rattle.trace_reading.specs.Laws.{AcceptedItemsGoOn, RefusedForOneClause, RefusedIsNotAccepted, TracesHaveOneVerdict};
 
 use crate::laws::{items_have_one_line, lines_have_one_reading};

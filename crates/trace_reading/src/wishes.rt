@@ -1,9 +1,7 @@
 //! Wishes that fit.
 
 ghost use Rattle.std.specs.Prelude.{◌≡◌};
-ghost use Rattle.bus_semantics.specs.Fitting.{activation_may_want, environment_may_want, machine_may_want, wish_fits};
-ghost use Rattle.bus_semantics.specs.Plan.{plan_of};
-ghost use Rattle.bus_semantics.specs.Wanted.{wanted_of};
+ghost use Rattle.bus_semantics.specs.Common.{activation_may_want, environment_may_want, machine_may_want, wish_fits, plan_of, wanted_of};
 
 use crate::list_owners::{list_fits, may_be_published};
 use crate::owners::{

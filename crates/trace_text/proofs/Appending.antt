@@ -1,7 +1,6 @@
 -- Texts appended one after the other.
 use Rattle.std.proofs.Common.{◌≡◌, ◌+◌, [], ◌++◌, length, sym, ap, ◌∙◌, append_assoc, length-append, arith}
-use Rattle.std.proofs.lemmas.List.{append-nil}
-use Rattle.bus_semantics.specs.Spelling.{Letters}
+use Rattle.bus_semantics.specs.Common.{append-nil, Letters}
 use Rattle.trace_text.specs.Appending.{Appends}
 
 pub appends_nothing : (old : Letters) → Appends old old []

@@ -1,7 +1,6 @@
 -- The digits of marks, one after the other.
 use Rattle.std.proofs.Common.{◌≡◌, ℕ, zero, suc, ◌+◌, ◌/◌, ◌%◌, ◌<◌, ◌==◌, cond, List, [], ◌∷◌, ◌++◌, length, take, codes, refl, sym, ap, ◌∙◌, subst, append_assoc, arith}
-use Rattle.std.proofs.lemmas.List.{append-nil}
-use Rattle.bus_semantics.specs.Spelling.{Letters, mask_text}
+use Rattle.bus_semantics.specs.Common.{append-nil, Letters, mask_text}
 use Rattle.trace_text.specs.Appending.{Appends}
 use Rattle.trace_text.proofs.Appending.{appends_both}
 

@@ -1,13 +1,8 @@
 -- The place of a coherent list of a sound plan among those of its runnable, and how many elements it has.
 use Rattle.std.proofs.Common.{◌≡◌, ℕ, ◌+◌, ◌≤◌, List, [], ◌∷◌, length, Option, Some, None, true, refl, sym, ap, ◌∙◌, subst, arith}
 use Rattle.std.specs.Prelude.{◌==◌, position, unwrap_or}
-use Rattle.std.specs.List.{slice_get}
-use Rattle.std.specs.Option.{option_map_or}
+use Rattle.bus_semantics.specs.Common.{slice_get, option_map_or, elems_of, Plan, Runnable, look, lists_sound, position_of}
 use Rattle.bus_semantics.specs.declared.plan.CoherentList.{CoherentList}
-use Rattle.bus_semantics.specs.Lists.{elems_of}
-use Rattle.bus_semantics.specs.Plan.{Plan, Runnable, look}
-use Rattle.bus_semantics.specs.SoundLists.{lists_sound}
-use Rattle.bus_semantics.specs.Spelling.{position_of}
 use Rattle.bus_laws.proofs.ListFacts.{few_in_list, list_position, listed, lists_in_a_row}
 use Rattle.trace_text.specs.Beside.{first_beside}
 

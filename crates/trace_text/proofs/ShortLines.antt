@@ -1,32 +1,12 @@
 -- How long the lines of a plan with short names may be.
 use Rattle.std.proofs.Common.{◌≡◌, ℕ, zero, suc, ◌/◌, ◌%◌, ◌≤◌, Bool, true, false, ◌&&◌, ◌==◌, cond, List, [], ◌∷◌, ◌++◌, length, codes, Option, Some, None, refl, ap, length-append, arith}
-use Rattle.std.proofs.lemmas.Bool.{and_parts}
-use Rattle.std.specs.List.{list_all}
+use Rattle.bus_semantics.specs.Common.{and_parts, list_all, Step, Value, elems_of, machine_itself, Plan, Runnable, look, machine_of_port, lists_sound, is_name, is_pair_name, is_path}
+use Rattle.bus_semantics.specs.Common.{names_fit, is_variable, Letters, actor_text, area_name, caller_text, deed_text, elem_name, entry_text, event_name, from_text, instance_text, key_text}
+use Rattle.bus_semantics.specs.Common.{machine_name, machine_text, mask_text, mode_port_name, mode_text, phase_text, point_name, point_text, runnable_text}
 use Rattle.std.specs.Prelude.{nat_le}
-use Rattle.rte_value.specs.declared.kinds.Step.{Step}
 use Rattle.rte_value.specs.declared.kinds.Step.TheVariants as step
-use Rattle.rte_value.specs.declared.value.Value.{Value}
-use Rattle.bus_semantics.specs.declared.plan.ElemPlan.{ElemPlan}
-use Rattle.bus_semantics.specs.declared.plan.PointPlan.{PointPlan}
-use Rattle.bus_semantics.specs.declared.plan.AreaPlan.{AreaPlan}
-use Rattle.bus_semantics.specs.declared.plan.MachinePlan.{MachinePlan}
-use Rattle.bus_semantics.specs.declared.plan.ModePortPlan.{ModePortPlan}
-use Rattle.bus_semantics.specs.declared.plan.EventPlan.{EventPlan}
-use Rattle.bus_semantics.specs.declared.entries.Actor.{Actor}
-use Rattle.bus_semantics.specs.declared.entries.Actor.TheVariants.{Env, Machine, Act}
-use Rattle.bus_semantics.specs.declared.entries.Deed.{Deed}
+use Rattle.bus_laws.specs.Common.{ElemPlan, PointPlan, AreaPlan, MachinePlan, ModePortPlan, EventPlan, Actor, Env, Machine, Act, Deed, Entry, Version, One, Two, ServerPlan}
 use Rattle.bus_semantics.specs.declared.entries.Deed.TheVariants as deed
-use Rattle.bus_semantics.specs.declared.entries.Entry.{Entry}
-use Rattle.bus_semantics.specs.Lists.{elems_of}
-use Rattle.bus_semantics.specs.Objects.{machine_itself}
-use Rattle.bus_semantics.specs.Plan.{Plan, Runnable, look, machine_of_port}
-use Rattle.bus_semantics.specs.declared.version.Version.{Version}
-use Rattle.bus_semantics.specs.declared.version.Version.TheVariants.{One, Two}
-use Rattle.bus_semantics.specs.declared.plan.ServerPlan.{ServerPlan}
-use Rattle.bus_semantics.specs.SoundLists.{lists_sound}
-use Rattle.bus_semantics.specs.SoundNames.{is_name, is_pair_name, is_path, names_fit}
-use Rattle.bus_semantics.specs.SoundPlan.{is_variable}
-use Rattle.bus_semantics.specs.Spelling.{Letters, actor_text, area_name, caller_text, deed_text, elem_name, entry_text, event_name, from_text, instance_text, key_text, machine_name, machine_text, mask_text, mode_port_name, mode_text, phase_text, point_name, point_text, runnable_text}
 use Rattle.trace_text.specs.Short.{IsShort, IsShortFrom, IsShortMode, IsShortStep}
 use Rattle.trace_text.proofs.Places.{elems_few}
 use Rattle.trace_text.proofs.ShortNames.{look_short, name_short, pair_short, path_short}

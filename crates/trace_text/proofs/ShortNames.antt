@@ -1,10 +1,6 @@
 -- How long names are that a sound plan may have.
 use Rattle.std.proofs.Common.{◌≡◌, ℕ, zero, suc, ◌+◌, ◌≤◌, ◌*◌, Bool, true, false, ◌&&◌, ◌==◌, nat_le, List, [], ◌∷◌, length, refl, arith}
-use Rattle.std.proofs.lemmas.Bool.{and_parts, eqb-true, leb-true}
-use Rattle.std.specs.List.{list_all}
-use Rattle.bus_semantics.specs.Plan.{look}
-use Rattle.bus_semantics.specs.SoundNames.{is_letter, is_name_part, is_name, is_pair_name, is_path, parts}
-use Rattle.bus_semantics.specs.Spelling.{Letters}
+use Rattle.bus_semantics.specs.Common.{and_parts, eqb-true, leb-true, list_all, look, is_letter, is_name_part, is_name, is_pair_name, is_path, parts, Letters}
 
 pub name_short : (t : Letters) → is_name t ≡ true → length t ≤ 32
 name_short [] h = absurd (cc)

@@ -1,8 +1,7 @@
 -- One more word of a value, after those before it.
 use Rattle.std.proofs.Common.{◌≡◌, ◌+◌, ◌<◌, ◌≤◌, ◌*◌, List, [], ◌∷◌, ◌++◌, length, take, get_or, ℕ, ℤ, refl, sym, ap, ◌∙◌, subst, append_assoc, length-append, arith}
-use Rattle.std.proofs.lemmas.List.{append-nil, take_more}
+use Rattle.bus_semantics.specs.Common.{append-nil, take_more, Letters, more_words}
 use Rattle.std.specs.Fmt.{signed_decimal}
-use Rattle.bus_semantics.specs.Spelling.{Letters, more_words}
 use Rattle.trace_text.specs.Appending.{Appends}
 use Rattle.trace_text.proofs.Appending.{appends_both}
 

@@ -1,15 +1,10 @@
 -- How long what a deed holds may be in a line: a number has at most 20 bytes, a value 16 words with a comma between them. A mode is
 -- a number in version one alone.
 use Rattle.std.specs.Prelude.{ℕ, ◌≤◌, length, decimal, Option, Some, None}
-use Rattle.rte_value.specs.declared.kinds.Step.{Step}
+use Rattle.bus_semantics.specs.Common.{Step, Value, Plan, position_of, value_text}
 use Rattle.rte_value.specs.declared.kinds.Step.TheVariants as step
-use Rattle.rte_value.specs.declared.value.Value.{Value}
-use Rattle.bus_semantics.specs.declared.entries.Deed.{Deed}
+use Rattle.bus_laws.specs.Common.{Deed, Version, One, Two}
 use Rattle.bus_semantics.specs.declared.entries.Deed.TheVariants as deed
-use Rattle.bus_semantics.specs.declared.version.Version.{Version}
-use Rattle.bus_semantics.specs.declared.version.Version.TheVariants.{One, Two}
-use Rattle.bus_semantics.specs.Plan.{Plan}
-use Rattle.bus_semantics.specs.Spelling.{position_of, value_text}
 
 abbrev pub IsShortNumber : ℕ → Type 0
 IsShortNumber n = length (decimal n) ≤ 20

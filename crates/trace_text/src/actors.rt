@@ -1,7 +1,6 @@
 //! Who made an entry.
 
-ghost use Rattle.bus_semantics.specs.Plan.{plan_of};
-ghost use Rattle.bus_semantics.specs.Spelling.{actor_text, caller_text, key_text, machine_text, point_text, runnable_text};
+ghost use Rattle.bus_semantics.specs.Common.{plan_of, actor_text, caller_text, key_text, machine_text, point_text, runnable_text};
 ghost use Rattle.trace_text.specs.Appending.{Appends};
 
 use crate::fields::write_text;

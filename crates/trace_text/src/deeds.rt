@@ -1,11 +1,8 @@
 //! What was done, with what the bus answered.
 
 ghost use Rattle.std.specs.Prelude.{◌≡◌, ◌++◌, codes, decimal, Some, true, if◌then◌else◌};
-ghost use Rattle.bus_semantics.specs.Plan.{plan_of};
-ghost use Rattle.bus_semantics.specs.Spelling.{deed_text, event_name, from_text, machine_name, mode_port_name, mode_text, phase_text, spaced, value_text};
-ghost use Rattle.bus_semantics.specs.Plan.{machine_of_port};
-ghost use Rattle.bus_semantics.specs.Objects.{machine_itself};
-ghost use Rattle.bus_semantics.specs.SoundLists.{lists_sound};
+ghost use Rattle.bus_semantics.specs.Common.{plan_of, deed_text, event_name, from_text, machine_name, mode_port_name, mode_text, phase_text, spaced, value_text, machine_of_port};
+ghost use Rattle.bus_semantics.specs.Common.{machine_itself, lists_sound};
 ghost use Rattle.trace_text.specs.Appending.{Appends};
 ghost use Rattle.trace_text.specs.Short.{IsShort, IsShortFrom, IsShortMode, IsShortNumber, IsShortStep, IsShortValue};
 

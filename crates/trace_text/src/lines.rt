@@ -2,11 +2,7 @@
 
 ghost use Rattle.std.specs.Prelude.{◌≡◌, [], true};
 ghost use Rattle.bus_semantics.specs.declared.version.Version.{Version};
-ghost use Rattle.bus_semantics.specs.Plan.{Plan, plan_of};
-ghost use Rattle.bus_semantics.specs.Run.{idle, run_begins, unsettled};
-ghost use Rattle.bus_semantics.specs.SoundLists.{lists_sound};
-ghost use Rattle.bus_semantics.specs.SoundNames.{names_fit};
-ghost use Rattle.bus_semantics.specs.Spelling.{closing_text, entry_text, header, item_text};
+ghost use Rattle.bus_semantics.specs.Common.{Plan, plan_of, idle, run_begins, unsettled, lists_sound, names_fit, closing_text, entry_text, header, item_text};
 ghost use Rattle.trace_text.specs.Appending.{Appends};
 ghost use Rattle.trace_text.specs.Short.{IsShort};
 

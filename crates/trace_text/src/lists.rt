@@ -1,10 +1,7 @@
 //! Coherent lists: what is fetched or published at one moment.
 
 ghost use Rattle.std.specs.Prelude.{◌≡◌, ◌++◌, ◌%◌, ◌==◌, codes, decimal, true, if◌then◌else◌};
-ghost use Rattle.bus_semantics.specs.Lists.{elems_of};
-ghost use Rattle.bus_semantics.specs.Plan.{plan_of};
-ghost use Rattle.bus_semantics.specs.SoundLists.{lists_sound};
-ghost use Rattle.bus_semantics.specs.Spelling.{mask_text, position_of, spaced, value_text};
+ghost use Rattle.bus_semantics.specs.Common.{elems_of, plan_of, lists_sound, mask_text, position_of, spaced, value_text};
 ghost use Rattle.trace_text.specs.Appending.{Appends};
 ghost use Rattle.trace_text.specs.Beside.{first_beside};
 ghost use Rattle.trace_text.specs.Short.{IsShortNumber, IsShortValue};

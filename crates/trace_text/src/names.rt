@@ -2,8 +2,7 @@
 
 ghost use Rattle.std.specs.Prelude.{◌≡◌, codes};
 ghost use Rattle.bus_semantics.specs.declared.version.Version.TheVariants.{Two};
-ghost use Rattle.bus_semantics.specs.Plan.{look, plan_of};
-ghost use Rattle.bus_semantics.specs.Spelling.{Letters, area_name, elem_name, event_name, instance_text, machine_name, mode_port_name, mode_text, point_name};
+ghost use Rattle.bus_semantics.specs.Common.{look, plan_of, Letters, area_name, elem_name, event_name, instance_text, machine_name, mode_port_name, mode_text, point_name};
 
 use bus_semantics::BusPlan;
 use rte_text::Text;

@@ -1,20 +1,10 @@
 -- Who asks: an activation of a key without a point, at a point of its own.
 use Rattle.std.proofs.Common.{◌≡◌, ℕ, zero, Bool, true, false, ◌&&◌, refl, sym, ◌∙◌, ap, subst, [], ◌∷◌, length, Option, Some, None}
-use Rattle.std.proofs.lemmas.Bool.{and_parts, false≢true}
-use Rattle.std.proofs.lemmas.Option.{same_Some}
+use Rattle.bus_semantics.specs.Common.{and_parts, false≢true, same_Some, ActKey, same_number, Plan, caller_of, wanted_by, History, is_of, serves_directly, key_fits, own_point}
+use Rattle.bus_semantics.specs.Common.{accepted_point, asked_last, MayFollow, IsLegal, IsSound}
 use Rattle.std.specs.Prelude.{nat_lt}
-use Rattle.rte_value.specs.declared.kinds.ActKey.{ActKey}
-use Rattle.rte_value.specs.Values.{same_number}
-use Rattle.bus_semantics.specs.declared.script.Mapping.{Mapping}
-use Rattle.bus_semantics.specs.declared.entries.Deed.{Deed}
+use Rattle.bus_laws.specs.Common.{Mapping, Deed}
 use Rattle.bus_semantics.specs.declared.entries.Deed.TheVariants as deed
-use Rattle.bus_semantics.specs.Plan.{Plan, caller_of}
-use Rattle.bus_semantics.specs.Wanted.{wanted_by}
-use Rattle.bus_semantics.specs.History.{History, is_of}
-use Rattle.bus_semantics.specs.Owners.{serves_directly, key_fits, own_point}
-use Rattle.bus_semantics.specs.Actor.{accepted_point, asked_last}
-use Rattle.bus_semantics.specs.Legal.{MayFollow, IsLegal}
-use Rattle.bus_semantics.specs.Sound.{IsSound}
 use Rattle.history_laws.proofs.Asking.{calls_none}
 use Rattle.bus_laws.proofs.Thinning.{option_same}
 use Rattle.history_laws.proofs.Keys.{mine, itself, is_mine, alive, IsTo, others, starts, goes_on, is_to}

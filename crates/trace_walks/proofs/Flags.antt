@@ -1,23 +1,9 @@
 -- The keys that run, before a trace and after an entry.
 use Rattle.std.proofs.Common.{◌≡◌, ℕ, zero, suc, ◌<◌, Bool, true, false, ◌==◌, not, refl, sym, ◌∙◌, ap, subst, List, [], ◌∷◌, length, get_or, set, replicate, Option, Some, None}
 use Rattle.std.specs.Prelude.{nat_lt}
-use Rattle.std.specs.Option.{option_map_or}
-use Rattle.std.proofs.lemmas.Bool.{and_parts, eqb-true, eq-eqb, ltb-true, false≢true}
-use Rattle.std.proofs.lemmas.List.{get_or-set_other, get_or-set_same, length-set}
-use Rattle.std.proofs.lemmas.Option.{same_Some}
-use Rattle.rte_value.specs.declared.kinds.ActKey.{ActKey}
-use Rattle.bus_semantics.specs.declared.script.Mapping.{Mapping}
-use Rattle.bus_semantics.specs.declared.entries.Actor.{Actor}
-use Rattle.bus_semantics.specs.declared.entries.Actor.TheVariants.{Env, Machine, Act}
-use Rattle.bus_semantics.specs.declared.entries.Deed.{Deed}
-use Rattle.bus_semantics.specs.declared.entries.Entry.{Entry}
-use Rattle.bus_semantics.specs.Plan.{Plan}
-use Rattle.bus_semantics.specs.History.{History, is_of, is_over, made_by, runs}
-use Rattle.bus_semantics.specs.Owners.{key_fits}
-use Rattle.bus_semantics.specs.Fitting.{fits}
-use Rattle.bus_semantics.specs.Actor.{direct_key}
-use Rattle.bus_semantics.specs.Rest.{plain_key}
-use Rattle.bus_semantics.specs.Sound.{IsSound}
+use Rattle.bus_semantics.specs.Common.{option_map_or, and_parts, eqb-true, eq-eqb, ltb-true, false≢true, get_or-set_other, get_or-set_same, length-set, same_Some, ActKey, Plan, History}
+use Rattle.bus_semantics.specs.Common.{is_of, is_over, made_by, runs, key_fits, fits, direct_key, plain_key, IsSound}
+use Rattle.bus_laws.specs.Common.{Mapping, Actor, Env, Machine, Act, Deed, Entry}
 use Rattle.history_laws.proofs.Keys.{fit_key, mine, runs_mine, runs_other}
 use Rattle.no_stall.proofs.Keys.{direct_is, joined_point}
 use Rattle.trace_walks.specs.declared.runners.Runners.{Runners}

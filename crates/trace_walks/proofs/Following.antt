@@ -1,27 +1,12 @@
 -- What the walks answer is the actor rule, after the histories for which they stand.
 use Rattle.std.proofs.Common.{◌≡◌, ℕ, ◌<◌, Bool, true, false, ◌&&◌, not, if◌then◌else◌, refl, sym, ◌∙◌, ap, subst, arith, length, List, [], ◌∷◌, Option, Some, None}
 use Rattle.std.specs.Prelude.{nat_lt, unwrap_or, option_and_then}
-use Rattle.std.specs.List.{slice_get, list_any}
-use Rattle.std.specs.Option.{option_or}
-use Rattle.std.proofs.lemmas.Bool.{and_parts, ltb-true, false≢true}
-use Rattle.std.proofs.lemmas.Option.{slice_get_within, slice_get-get_or}
-use Rattle.rte_value.specs.declared.kinds.ActKey.{ActKey}
-use Rattle.rte_value.specs.declared.value.Value.{Value}
-use Rattle.rte_value.specs.Values.{words_of, same_number}
-use Rattle.bus_semantics.specs.declared.plan.PointPlan.{PointPlan}
-use Rattle.bus_semantics.specs.declared.entries.Actor.TheVariants.{Act}
-use Rattle.bus_semantics.specs.declared.entries.Deed.{Deed}
+use Rattle.bus_semantics.specs.Common.{slice_get, list_any, option_or, and_parts, ltb-true, false≢true, slice_get_within, slice_get-get_or, ActKey, Value, words_of, same_number, Plan}
+use Rattle.bus_semantics.specs.Common.{Runnable, caller_of, runnable_of_event, Wanted, wanted_by, next_of_activity, History, is_of, is_over, event_started, needs_event, note, runs}
+use Rattle.bus_semantics.specs.Common.{last_started, served_by, key_fits, fits, Activation, with_deed, activation_of, wanted_in, next_wish, asked_last, is_this, is_wanted_next, is_held_back}
+use Rattle.bus_semantics.specs.Common.{caller_has_asked, may_start, starts_or_goes_on, follows_program, plain_key}
+use Rattle.bus_laws.specs.Common.{PointPlan, Act, Deed, Entry}
 use Rattle.bus_semantics.specs.declared.entries.Deed.TheVariants as deed
-use Rattle.bus_semantics.specs.declared.entries.Entry.{Entry}
-use Rattle.bus_semantics.specs.Plan.{Plan, Runnable, caller_of, runnable_of_event}
-use Rattle.bus_semantics.specs.Wanted.{Wanted, wanted_by}
-use Rattle.bus_semantics.specs.Activations.{next_of_activity}
-use Rattle.bus_semantics.specs.History.{History, is_of, is_over, event_started, needs_event, note, runs, last_started}
-use Rattle.bus_semantics.specs.Objects.{served_by}
-use Rattle.bus_semantics.specs.Owners.{key_fits}
-use Rattle.bus_semantics.specs.Fitting.{fits}
-use Rattle.bus_semantics.specs.Actor.{Activation, with_deed, activation_of, wanted_in, next_wish, asked_last, is_this, is_wanted_next, is_held_back, caller_has_asked, may_start, starts_or_goes_on, follows_program}
-use Rattle.bus_semantics.specs.Rest.{plain_key}
 use Rattle.history_laws.specs.LookUps.{looked}
 use Rattle.history_laws.proofs.Keys.{fit_key}
 use Rattle.history_laws.proofs.Lists.{there_is}

@@ -1,12 +1,9 @@
 -- Who is held back after a further entry: another's entry frees a caller exactly if it is the end of the direct activation that it called.
 use Rattle.std.proofs.Common.{◌≡◌, ℕ, true, false, ◌&&◌, not, refl, ap, ◌∷◌, Option, Some, None}
 use Rattle.std.specs.Prelude.{option_and_then}
-use Rattle.rte_value.specs.declared.kinds.ActKey.{ActKey}
+use Rattle.bus_semantics.specs.Common.{ActKey, Plan, History, is_of, is_end, direct_key, asked_last, ended_since, is_held_back}
 use Rattle.bus_semantics.specs.declared.entries.Deed.TheVariants as deed
 use Rattle.bus_semantics.specs.declared.entries.Entry.{Entry}
-use Rattle.bus_semantics.specs.Plan.{Plan}
-use Rattle.bus_semantics.specs.History.{History, is_of, is_end}
-use Rattle.bus_semantics.specs.Actor.{direct_key, asked_last, ended_since, is_held_back}
 use Rattle.trace_walks.specs.Walking.{entry_of}
 use Rattle.history_laws.proofs.Keys.{itself}
 

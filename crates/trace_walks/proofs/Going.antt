@@ -1,18 +1,10 @@
 -- What a walk stands for after an entry.
 use Rattle.std.proofs.Common.{◌≡◌, ℕ, Bool, true, false, not, if◌then◌else◌, refl, sym, ◌∙◌, ap, List, [], ◌∷◌, ◌++◌, Option, Some, None, is_some}
 use Rattle.std.specs.Prelude.{option_and_then, ◌||◌}
-use Rattle.std.specs.List.{list_any}
-use Rattle.std.proofs.lemmas.Bool.{or_from}
-use Rattle.std.proofs.lemmas.List.Folds.{list_any-append}
-use Rattle.rte_value.specs.declared.kinds.ActKey.{ActKey}
-use Rattle.rte_value.specs.declared.value.Value.{Value}
-use Rattle.rte_value.specs.Values.{words_of}
-use Rattle.bus_semantics.specs.declared.entries.Deed.{Deed}
+use Rattle.bus_semantics.specs.Common.{list_any, or_from, list_any-append, ActKey, Value, words_of, Plan, History, is_of, is_over, event_started, runs, Activation, with_deed, direct_key}
+use Rattle.bus_semantics.specs.Common.{accepted_point, asked_last, is_held_back}
+use Rattle.bus_laws.specs.Common.{Deed, Entry}
 use Rattle.bus_semantics.specs.declared.entries.Deed.TheVariants as deed
-use Rattle.bus_semantics.specs.declared.entries.Entry.{Entry}
-use Rattle.bus_semantics.specs.Plan.{Plan}
-use Rattle.bus_semantics.specs.History.{History, is_of, is_over, event_started, runs}
-use Rattle.bus_semantics.specs.Actor.{Activation, with_deed, direct_key, accepted_point, asked_last, is_held_back}
 use Rattle.history_laws.proofs.Keys.{itself}
 use Rattle.task_machine.specs.declared.instr.TaskSet.{TaskSet}
 use Rattle.task_machine.specs.Frames.{Stands}

@@ -1,16 +1,8 @@
 -- No flag is set exactly where no activation runs.
 use Rattle.std.proofs.Common.{◌≡◌, ℕ, zero, suc, ◌<◌, inl, inr, Bool, true, false, ◌&&◌, not, refl, sym, ◌∙◌, ap, subst, arith, List, [], ◌∷◌, length, get_or, is_some, Option, Some, None}
-use Rattle.std.specs.List.{list_all}
-use Rattle.std.specs.Option.{option_map_or}
-use Rattle.std.proofs.lemmas.Bool.{and_from, and_parts, false≢true}
-use Rattle.std.proofs.lemmas.List.Folds.{list_all-append, list_all-map}
-use Rattle.rte_value.specs.declared.kinds.ActKey.{ActKey}
+use Rattle.bus_semantics.specs.Common.{list_all, option_map_or, and_from, and_parts, false≢true, list_all-append, list_all-map, ActKey, Plan, positions, History, runs, direct_key, plain_key}
+use Rattle.bus_semantics.specs.Common.{plain_keys, direct_keys, option_list, none_runs, IsSound}
 use Rattle.bus_semantics.specs.declared.script.Mapping.{Mapping}
-use Rattle.bus_semantics.specs.Plan.{Plan, positions}
-use Rattle.bus_semantics.specs.History.{History, runs}
-use Rattle.bus_semantics.specs.Actor.{direct_key}
-use Rattle.bus_semantics.specs.Rest.{plain_key, plain_keys, direct_keys, option_list, none_runs}
-use Rattle.bus_semantics.specs.Sound.{IsSound}
 use Rattle.no_stall.proofs.Lists.{Among, all_from, all_at, all_positions, gathered_from, among_gathered, among_positions}
 use Rattle.no_stall.proofs.Keys.{direct_is, joined_point}
 use Rattle.place_set.specs.Places.{IsNext}

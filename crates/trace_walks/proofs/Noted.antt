@@ -2,25 +2,10 @@
 -- walk changes.
 use Rattle.std.proofs.Common.{◌≡◌, ℕ, ◌<◌, Bool, true, false, ◌&&◌, ◌==◌, refl, sym, ◌∙◌, ap, subst, arith, List, ◌∷◌, length, Option, Some, None}
 use Rattle.std.specs.Prelude.{nat_lt, option_and_then}
-use Rattle.std.specs.List.{slice_get}
-use Rattle.std.proofs.lemmas.Bool.{and_parts, eqb-true, eq-eqb, ltb-true, false≢true}
-use Rattle.std.proofs.lemmas.Option.{same_Some, slice_get_within}
-use Rattle.rte_value.specs.declared.kinds.ActKey.{ActKey}
-use Rattle.rte_value.specs.Values.{same_key}
-use Rattle.rte_value.specs.EqualKeys.{same_key-Decides}
-use Rattle.bus_semantics.specs.declared.script.Mapping.{Mapping}
-use Rattle.bus_semantics.specs.declared.entries.Actor.{Actor}
-use Rattle.bus_semantics.specs.declared.entries.Actor.TheVariants.{Env, Machine, Act}
-use Rattle.bus_semantics.specs.declared.entries.Deed.{Deed}
+use Rattle.bus_semantics.specs.Common.{slice_get, and_parts, eqb-true, eq-eqb, ltb-true, false≢true, same_Some, slice_get_within, ActKey, same_key, same_key-Decides, Plan, caller_of}
+use Rattle.bus_semantics.specs.Common.{History, is_of, made_by, is_end, runs, key_fits, direct_key, asked_last, is_held_back, starts_or_goes_on, IsLegal, plain_key, IsSound}
+use Rattle.bus_laws.specs.Common.{Mapping, Actor, Env, Machine, Act, Deed, Entry}
 use Rattle.bus_semantics.specs.declared.entries.Deed.TheVariants as deed
-use Rattle.bus_semantics.specs.declared.entries.Entry.{Entry}
-use Rattle.bus_semantics.specs.Plan.{Plan, caller_of}
-use Rattle.bus_semantics.specs.History.{History, is_of, made_by, is_end, runs}
-use Rattle.bus_semantics.specs.Owners.{key_fits}
-use Rattle.bus_semantics.specs.Actor.{direct_key, asked_last, is_held_back, starts_or_goes_on}
-use Rattle.bus_semantics.specs.Legal.{IsLegal}
-use Rattle.bus_semantics.specs.Rest.{plain_key}
-use Rattle.bus_semantics.specs.Sound.{IsSound}
 use Rattle.history_laws.specs.Callers.{CallerWaits}
 use Rattle.history_laws.proofs.Lists.{there_is}
 use Rattle.history_laws.proofs.Keys.{alive, fit_key, itself, IsTo, others, starts, goes_on, is_to}

@@ -1,12 +1,8 @@
 -- What the walks stand for after an entry that is no key's of theirs, or that frees nobody.
 use Rattle.std.proofs.Common.{◌≡◌, ℕ, false, ◌&&◌, refl, sym, ◌∙◌, ap, ◌∷◌, Some}
 use Rattle.std.specs.Prelude.{option_and_then}
-use Rattle.rte_value.specs.declared.kinds.ActKey.{ActKey}
+use Rattle.bus_semantics.specs.Common.{ActKey, Plan, History, is_of, is_end, direct_key, asked_last, plain_key}
 use Rattle.bus_semantics.specs.declared.entries.Entry.{Entry}
-use Rattle.bus_semantics.specs.Plan.{Plan}
-use Rattle.bus_semantics.specs.History.{History, is_of, is_end}
-use Rattle.bus_semantics.specs.Actor.{direct_key, asked_last}
-use Rattle.bus_semantics.specs.Rest.{plain_key}
 use Rattle.task_machine.specs.declared.instr.TaskSet.{TaskSet}
 use Rattle.trace_walks.specs.declared.walk.Walk.{Walk}
 use Rattle.trace_walks.specs.declared.walks.Walks.{Walks}

@@ -1,15 +1,7 @@
 -- The keys that run along a trace, and the history for which they are noted (SWS_RTE: runnable activation). Histories stand the newest first.
 use Rattle.std.specs.Prelude.{◌≡◌, ℕ, ◌<◌, length, slice_index_or, slice_set, Bool, true, false, Option, Some, None}
-use Rattle.std.specs.Option.{option_map_or}
-use Rattle.rte_value.specs.declared.kinds.ActKey.{ActKey}
-use Rattle.bus_semantics.specs.declared.entries.Entry.{Entry}
-use Rattle.bus_semantics.specs.declared.script.Mapping.{Mapping}
-use Rattle.bus_semantics.specs.Plan.{Plan}
-use Rattle.bus_semantics.specs.History.{History, runs}
-use Rattle.bus_semantics.specs.Actor.{direct_key}
-use Rattle.bus_semantics.specs.Fitting.{fits}
-use Rattle.bus_semantics.specs.Rest.{plain_key}
-use Rattle.bus_semantics.specs.Sound.{IsSound}
+use Rattle.bus_semantics.specs.Common.{option_map_or, ActKey, Plan, History, runs, direct_key, fits, plain_key, IsSound}
+use Rattle.bus_laws.specs.Common.{Entry, Mapping}
 use Rattle.trace_walks.specs.declared.runners.Runners.{Runners}
 
 -- whether an activation runs of the key that serves the point directly; none does if no key serves it so

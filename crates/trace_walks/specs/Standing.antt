@@ -1,15 +1,9 @@
 -- What is kept of all activations along a trace, and what it stands for in a history (SWS_RTE: runnable activation). A key is a runnable, with
 -- a point if it serves a server without a queue. Histories stand the newest first.
 use Rattle.std.specs.Prelude.{◌≡◌, ℕ, List, ◌∷◌, length, slice_get, Bool, true, false, not, ◌&&◌, Option, Some, None}
-use Rattle.rte_value.specs.declared.kinds.ActKey.{ActKey}
-use Rattle.rte_value.specs.Values.{same_number}
+use Rattle.bus_semantics.specs.Common.{ActKey, same_number, Plan, look, caller_of, runnable_of_event, History, key_fits, asked_last, direct_key, starts_or_goes_on, plain_key}
 use Rattle.bus_semantics.specs.declared.entries.Deed.{Deed}
 use Rattle.bus_semantics.specs.declared.entries.Deed.TheVariants as deed
-use Rattle.bus_semantics.specs.Plan.{Plan, look, caller_of, runnable_of_event}
-use Rattle.bus_semantics.specs.History.{History}
-use Rattle.bus_semantics.specs.Owners.{key_fits}
-use Rattle.bus_semantics.specs.Actor.{asked_last, direct_key, starts_or_goes_on}
-use Rattle.bus_semantics.specs.Rest.{plain_key}
 use Rattle.task_machine.specs.declared.instr.TaskSet.{TaskSet}
 use Rattle.trace_walks.specs.declared.walk.Walk.{Walk}
 use Rattle.trace_walks.specs.declared.walks.Walks.{Walks}

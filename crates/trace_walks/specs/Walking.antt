@@ -1,18 +1,9 @@
 -- What is kept of a key's activations along a trace, and what it stands for in a history (SWS_RTE: runnable activation; Rte_Call of a server
 -- without a queue). Histories stand the newest first, the deeds of an activation the oldest first.
 use Rattle.std.specs.Prelude.{◌≡◌, ℕ, List, [], Bool, true, false, Option, Some, None, is_some, option_map, slice_get}
-use Rattle.std.specs.List.{list_any}
-use Rattle.rte_value.specs.declared.kinds.ActKey.{ActKey}
-use Rattle.rte_value.specs.declared.value.Value.{Value}
-use Rattle.rte_value.specs.Values.{words_of}
-use Rattle.bus_semantics.specs.declared.entries.Actor.TheVariants.{Act}
-use Rattle.bus_semantics.specs.declared.entries.Deed.{Deed}
+use Rattle.bus_semantics.specs.Common.{list_any, ActKey, Value, words_of, Plan, Wanted, History, runs, is_over, Activation, activation_of, asked_last, is_held_back, may_start, next_wish}
+use Rattle.bus_laws.specs.Common.{Act, Deed, Entry}
 use Rattle.bus_semantics.specs.declared.entries.Deed.TheVariants.{Start}
-use Rattle.bus_semantics.specs.declared.entries.Entry.{Entry}
-use Rattle.bus_semantics.specs.Plan.{Plan}
-use Rattle.bus_semantics.specs.Wanted.{Wanted}
-use Rattle.bus_semantics.specs.History.{History, runs, is_over}
-use Rattle.bus_semantics.specs.Actor.{Activation, activation_of, asked_last, is_held_back, may_start, next_wish}
 use Rattle.task_machine.specs.declared.instr.TaskSet.{TaskSet}
 use Rattle.task_machine.specs.Frames.{Stands}
 use Rattle.trace_walks.specs.declared.walk.Running.{Running}

@@ -1,10 +1,7 @@
 //! The activations of one key.
 
 ghost use Rattle.std.specs.Prelude.{◌≡◌, is_some, option_and_then};
-ghost use Rattle.bus_semantics.specs.History.{is_over};
-ghost use Rattle.bus_semantics.specs.Actor.{accepted_point, direct_key, is_this};
-ghost use Rattle.bus_semantics.specs.Plan.{plan_of};
-ghost use Rattle.bus_semantics.specs.Wanted.{wanted_by};
+ghost use Rattle.bus_semantics.specs.Common.{is_over, accepted_point, direct_key, is_this, plan_of, wanted_by};
 ghost use Rattle.task_machine.specs.Frames.{wanted_in};
 
 use crate::Memory;

@@ -1,8 +1,7 @@
 //! The activations of all keys.
 
 ghost use Rattle.std.specs.Prelude.{◌≡◌, OnOk};
-ghost use Rattle.bus_semantics.specs.Plan.{plan_of};
-ghost use Rattle.bus_semantics.specs.History.{needs_event};
+ghost use Rattle.bus_semantics.specs.Common.{plan_of, needs_event};
 ghost use Rattle.trace_walks.specs.Standing.{FreedAt, NotedAt};
 
 use crate::Memory;

@@ -1,10 +1,8 @@
 use Rattle.std.proofs.Common.{◌≡◌, ◌<◌, ◌≤◌, ◌+◌, length, length-append, map, take, get_or, sym, ◌∙◌, ap, subst, arith, ◌++◌, ◌∷◌, [], false, Some}
 use Rattle.std.specs.Prelude.{sum_by}
-use Rattle.std.specs.List.{slice_get}
-use Rattle.std.proofs.lemmas.List.{length-map, length-replicate, map_push, take_more}
+use Rattle.bus_semantics.specs.Common.{slice_get, length-map, length-replicate, take_more, slice_get-get_or, plan_of}
+use Rattle.std.proofs.lemmas.List.{map_push}
 use Rattle.std.proofs.lemmas.List.Sums.{sum_by_push}
-use Rattle.std.proofs.lemmas.Option.{slice_get-get_or}
-use Rattle.bus_semantics.specs.Plan.{plan_of}
 use Rattle.object_kinds.specs.Layout.{events_of, waits_for_data}
 use Rattle.data_objects.specs.Kept as groups
 use Rattle.data_objects.specs.Kept.{GroupState}

@@ -1,9 +1,7 @@
 use Rattle.std.proofs.Common.{◌≡◌, ◌≤◌, ℕ, length, map, take, Some}
 use Rattle.std.specs.Prelude.{sum_by}
-use Rattle.std.specs.List.{slice_get}
-use Rattle.bus_semantics.specs.Plan.{plan_of}
-use Rattle.object_kinds.specs.Gathered.{listed_at}
-use Rattle.object_kinds.specs.Layout.{events_of, waits_for_data}
+use Rattle.bus_semantics.specs.Common.{slice_get, plan_of}
+use Rattle.object_kinds.specs.Common.{listed_at, events_of, waits_for_data}
 use Rattle.data_objects.specs.Kept as groups
 use Rattle.data_objects.specs.Kept.{GroupState}
 use Rattle.bundle_objects.proofs.making.make_groups.Given as goal

@@ -1,9 +1,6 @@
 use Rattle.std.proofs.Common.{◌≡◌, ◌∙◌, ◌++◌, ap, [], get_or, true, length}
-use Rattle.std.proofs.lemmas.Bool.{and_parts}
+use Rattle.bus_semantics.specs.Common.{and_parts, plan_of, groups_at, same_numbers}
 use Rattle.std.specs.Prelude.{nat_lt}
-use Rattle.bus_semantics.specs.Plan.{plan_of}
-use Rattle.bus_semantics.specs.Bundles.{groups_at}
-use Rattle.bus_semantics.specs.SoundPlan.{same_numbers}
 use Rattle.bus_laws.proofs.Bundling.{bundle_lists, same_lists}
 use Rattle.object_kinds.proofs.Lists.{at_index}
 use Rattle.bundle_objects.proofs.making.numbers_of.Goals as goal

@@ -1,7 +1,6 @@
 use Rattle.std.proofs.Common.{[], codes, refl, inr}
-use Rattle.std.specs.Fmt.{digits}
+use Rattle.bus_semantics.specs.Common.{digits, IsRunOf, IsBegunRunOf}
 use Rattle.bus_semantics.specs.declared.version.Version.TheVariants.{One, Two}
-use Rattle.bus_semantics.specs.Run.{IsRunOf, IsBegunRunOf}
 use Rattle.bus_rows.specs.RowParts.{machine}
 use Rattle.bus_rows.specs.ModeSwitch.{one_machine, three_cores, switch_and_run, switched, phase_entry}
 use Rattle.bus_rows.specs.Traces.{until_ended, until_not_admitted}

@@ -1,9 +1,7 @@
 use Rattle.std.proofs.Common.{pos, [], codes, refl, inl, inr}
-use Rattle.std.specs.Fmt.{digits}
-use Rattle.rte_value.specs.ShortValues.{one_word}
+use Rattle.bus_semantics.specs.Common.{digits, one_word, made, run_closes, idle, IsRunOf, IsBegunRunOf}
 use Rattle.bus_semantics.specs.declared.version.Version.TheVariants.{One, Two}
 use Rattle.bus_semantics.specs.declared.entries.Deed.TheVariants as deed
-use Rattle.bus_semantics.specs.Run.{made, run_closes, idle, IsRunOf, IsBegunRunOf}
 use Rattle.bus_rows.specs.RowParts.{act_of, by, start}
 use Rattle.bus_rows.specs.OneWriter.{one_writer, one_task, ten_ticks_and_run, until_look, written_then_read, six_read}
 use Rattle.bus_rows.specs.Traces.{until_write, until_end}

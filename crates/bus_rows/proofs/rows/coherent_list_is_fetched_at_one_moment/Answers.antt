@@ -1,9 +1,5 @@
 use Rattle.std.specs.Prelude.{◌≡◌, true, refl}
-use Rattle.std.specs.Fmt.{digits}
-use Rattle.std.proofs.lemmas.Bool.{false≢true}
-use Rattle.bus_semantics.specs.Legal.{is_legal}
-use Rattle.bus_semantics.specs.Run.{history_of}
-use Rattle.bus_semantics.specs.Plan.{Plan, positions}
+use Rattle.bus_semantics.specs.Common.{digits, false≢true, is_legal, history_of, Plan, positions}
 use Rattle.bus_laws.proofs.Resting.{could}
 use Rattle.bus_rows.specs.OneWriter.{one_task, ten_ticks_and_run}
 use Rattle.bus_rows.specs.CoherentLists.{writes_both, two_lists, listed_twice, both_fetched}

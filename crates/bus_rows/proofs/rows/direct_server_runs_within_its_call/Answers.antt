@@ -1,13 +1,9 @@
 use Rattle.std.specs.Prelude.{◌≡◌, true, refl}
-use Rattle.std.specs.Fmt.{digits}
-use Rattle.std.proofs.lemmas.Bool.{false≢true}
-use Rattle.std.proofs.Math.Bool.{and-false, or-false}
-use Rattle.bus_semantics.specs.Legal.{is_legal}
-use Rattle.bus_semantics.specs.Run.{history_of}
+use Rattle.bus_semantics.specs.Common.{digits, false≢true, or-false, is_legal, history_of, positions}
+use Rattle.std.proofs.Math.Bool.{and-false}
 use Rattle.bus_laws.proofs.Resting.{could}
 use Rattle.bus_rows.specs.OneWriter.{ten_ticks_and_run}
 use Rattle.bus_rows.specs.DirectCall.{direct_server, caller_task, served_within}
-use Rattle.bus_semantics.specs.Plan.{positions}
 use Rattle.bus_rows.proofs.RowPasts.{pasts_of}
 use Rattle.bus_rows.proofs.RowRuns.{words_hold, run_of}
 use Rattle.bus_rows.proofs.RowSound.{sound_of, unordered}

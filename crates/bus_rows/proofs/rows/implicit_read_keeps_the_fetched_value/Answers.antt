@@ -1,12 +1,8 @@
 use Rattle.std.specs.Prelude.{◌≡◌, true, refl}
-use Rattle.std.specs.Fmt.{digits}
-use Rattle.std.proofs.lemmas.Bool.{false≢true}
-use Rattle.bus_semantics.specs.Legal.{is_legal}
-use Rattle.bus_semantics.specs.Run.{history_of}
+use Rattle.bus_semantics.specs.Common.{digits, false≢true, is_legal, history_of, positions}
 use Rattle.bus_laws.proofs.Resting.{could}
 use Rattle.bus_rows.specs.OneWriter.{ten_ticks_and_run}
 use Rattle.bus_rows.specs.ImplicitAccess.{early_reader, two_tasks, fetched_kept}
-use Rattle.bus_semantics.specs.Plan.{positions}
 use Rattle.bus_rows.proofs.RowPasts.{pasts_of}
 use Rattle.bus_rows.proofs.RowRuns.{words_hold, run_of}
 use Rattle.bus_rows.proofs.RowSound.{sound_of, unordered}

@@ -1,15 +1,9 @@
 use Rattle.std.specs.Prelude.{◌≡◌, ℕ, ◌<◌, true, ◌&&◌, ◌==◌, refl}
 use Rattle.std.proofs.Common.{arith}
-use Rattle.std.proofs.Math.Bool.{or-false}
-use Rattle.bus_semantics.specs.Sound.{WaitOrder}
-use Rattle.std.specs.Fmt.{digits}
-use Rattle.std.proofs.lemmas.Bool.{and_parts, eqb-true}
-use Rattle.bus_semantics.specs.Legal.{is_legal}
-use Rattle.bus_semantics.specs.Run.{history_of}
+use Rattle.bus_semantics.specs.Common.{or-false, WaitOrder, digits, and_parts, eqb-true, is_legal, history_of, positions}
 use Rattle.bus_laws.proofs.Resting.{could}
 use Rattle.bus_rows.specs.OneWriter.{ten_ticks_and_run}
 use Rattle.bus_rows.specs.QueuedCalls.{two_clients, clients_and_server, served_in_turn}
-use Rattle.bus_semantics.specs.Plan.{positions}
 use Rattle.bus_rows.proofs.RowPasts.{pasts_of}
 use Rattle.bus_rows.proofs.RowRuns.{words_hold, run_of}
 use Rattle.bus_rows.proofs.RowSound.{sound_of}

@@ -1,10 +1,8 @@
 use Rattle.std.specs.Prelude.{◌≡◌, ℕ, ◌<◌, List, [], ◌∷◌, codes, true, ◌&&◌, ◌==◌, Some, None, refl}
 use Rattle.std.proofs.Common.{arith}
-use Rattle.std.proofs.Math.Bool.{or-false, and-false}
-use Rattle.std.proofs.lemmas.Bool.{and_parts, eqb-true, false≢true}
+use Rattle.bus_semantics.specs.Common.{or-false, and_parts, eqb-true, false≢true, Plan, WaitOrder}
+use Rattle.std.proofs.Math.Bool.{and-false}
 use Rattle.bus_semantics.specs.declared.script.Mapping.{Mapping}
-use Rattle.bus_semantics.specs.Plan.{Plan}
-use Rattle.bus_semantics.specs.Sound.{WaitOrder}
 use Rattle.bus_rows.specs.SoundFacts.{broken_facts, LacksOrder}
 use Rattle.bus_rows.specs.AreaHeld.{two_cores}
 use Rattle.bus_rows.specs.OneWriter.{one_task}

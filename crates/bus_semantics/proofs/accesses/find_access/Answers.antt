@@ -1,7 +1,5 @@
 use Rattle.std.proofs.Common.{◌≡◌, ℕ, Bool, List, [], ◌∷◌, ◌⊎◌, inl, inr, refl, ◌∙◌}
-use Rattle.std.proofs.lemmas.Slice.Zip.{either_empty_from_Zip}
-use Rattle.runnable_lang.specs.declared.program.AccessSig.{AccessSig}
-use Rattle.bus_semantics.specs.State.{is_to, found}
+use Rattle.bus_semantics.specs.Common.{either_empty_from_Zip, AccessSig, is_to, found}
 use Rattle.bus_semantics.proofs.accesses.find_access.Goals as goal
 
 -- nothing is left of the accesses or of their numbers

@@ -1,6 +1,5 @@
 use Rattle.std.proofs.Common.{◌≡◌}
-use Rattle.bus_semantics.specs.Plan.{runnable_of}
-use Rattle.bus_semantics.specs.State.{is_to, found, access}
+use Rattle.bus_semantics.specs.Common.{runnable_of, is_to, found, access}
 use Rattle.bus_semantics.proofs.accesses.find_access.Given as goal
 
 abbrev pub invariant-loop-access : goal.invariant-loop-access

@@ -1,8 +1,7 @@
 use Rattle.std.proofs.Common.{◌≡◌, ◌<◌, [], length, List, Some, subst}
 use Rattle.bus_semantics.specs.Plan.{plan_of}
 use Rattle.line_fields.specs.Texts.{lines_of}
-use Rattle.script_reading.specs.Reading.{IsScriptBy, first_bad}
-use Rattle.script_reading.specs.Reserved.{saying_around}
+use Rattle.script_reading.specs.Common.{IsScriptBy, first_bad, saying_around}
 use Rattle.signal_link.specs.declared.link_elem.LinkElem.{LinkElem}
 use Rattle.pair_run.specs.Linked.{linked_in}
 use Rattle.commands.proofs.Numbered.{numbered}

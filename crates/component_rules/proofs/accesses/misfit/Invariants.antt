@@ -1,7 +1,6 @@
 use Rattle.std.proofs.Common.{◌≡◌, drop}
-use Rattle.plan_definitions.specs.Firsts.{first_of}
+use Rattle.plan_definitions.specs.Common.{first_of, misfit_among}
 use Rattle.plan_definitions.specs.declared.spot.Spot.{Spot}
-use Rattle.plan_definitions.specs.Accesses.{misfit_among}
 use Rattle.component_rules.proofs.accesses.misfit.Given as goal
 
 abbrev pub invariant-loop-position : goal.invariant-loop-position

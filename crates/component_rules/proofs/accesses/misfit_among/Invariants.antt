@@ -1,8 +1,7 @@
 use Rattle.std.proofs.Common.{◌≡◌, drop}
-use Rattle.plan_definitions.specs.Firsts.{first_of, unless}
+use Rattle.plan_definitions.specs.Common.{first_of, unless, access_fits}
 use Rattle.plan_definitions.specs.declared.spot.Spot.{Spot}
 use Rattle.plan_definitions.specs.declared.spot.Spot.TheVariants as spot
-use Rattle.plan_definitions.specs.Accesses.{access_fits}
 use Rattle.component_rules.proofs.accesses.misfit_among.Given as goal
 
 abbrev pub invariant-loop-access : goal.invariant-loop-access

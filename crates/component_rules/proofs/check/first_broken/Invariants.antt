@@ -1,7 +1,6 @@
 use Rattle.std.proofs.Common.{◌≡◌, ℕ, drop, option_map}
-use Rattle.plan_definitions.specs.Firsts.{first_of}
+use Rattle.plan_definitions.specs.Common.{first_of, broken_in}
 use Rattle.plan_definitions.specs.declared.spot.Spot.{Spot}
-use Rattle.plan_definitions.specs.ComponentRefusals.{broken_in}
 use Rattle.component_rules.proofs.check.first_broken.Given as goal
 
 abbrev pub invariant-loop-position : goal.invariant-loop-position

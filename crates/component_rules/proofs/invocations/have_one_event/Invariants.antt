@@ -1,6 +1,5 @@
 use Rattle.std.proofs.Common.{◌≡◌, ◌==◌, ◌-◌}
-use Rattle.plan_definitions.specs.Firsts.{each_number}
-use Rattle.plan_definitions.specs.Counts.{count, same_operation}
+use Rattle.plan_definitions.specs.Common.{each_number, count, same_operation}
 use Rattle.component_rules.proofs.invocations.have_one_event.Given as goal
 
 abbrev pub invariant-loop-operation : goal.invariant-loop-operation

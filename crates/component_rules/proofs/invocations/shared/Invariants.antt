@@ -1,8 +1,7 @@
 use Rattle.std.proofs.Common.{◌≡◌, drop}
-use Rattle.plan_definitions.specs.Firsts.{first_of, unless}
+use Rattle.plan_definitions.specs.Common.{first_of, unless, is_alone}
 use Rattle.plan_definitions.specs.declared.spot.Spot.{Spot}
 use Rattle.plan_definitions.specs.declared.spot.Spot.TheVariants as spot
-use Rattle.plan_definitions.specs.Invocations.{is_alone}
 use Rattle.component_rules.proofs.invocations.shared.Given as goal
 
 abbrev pub invariant-loop-position : goal.invariant-loop-position

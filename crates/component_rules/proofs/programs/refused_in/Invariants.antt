@@ -1,6 +1,5 @@
 use Rattle.std.proofs.Common.{◌≡◌, ℕ, List, drop, option_map, option_and_then}
-use Rattle.plan_definitions.specs.Firsts.{first_of}
-use Rattle.plan_definitions.specs.Programs.{path_of, program_refusal}
+use Rattle.plan_definitions.specs.Common.{first_of, path_of, program_refusal}
 use Rattle.component_rules.proofs.programs.refused_in.Given as goal
 
 abbrev pub invariant-loop-position : goal.invariant-loop-position

@@ -1,6 +1,5 @@
 use Rattle.std.proofs.Common.{◌≡◌, ℕ, List, drop, option_map}
-use Rattle.plan_definitions.specs.Firsts.{first_of}
-use Rattle.plan_definitions.specs.Programs.{refused_in}
+use Rattle.plan_definitions.specs.Common.{first_of, refused_in}
 use Rattle.component_rules.proofs.programs.refused_program.Given as goal
 
 abbrev pub invariant-loop-position : goal.invariant-loop-position

@@ -1,6 +1,5 @@
 use Rattle.std.proofs.Common.{◌≡◌, ◌++◌, ◌∷◌, [], ◌∙◌, List, length, length-append, append_assoc, sym, ap, arith}
-use Rattle.std.proofs.lemmas.List.{map-append}
-use Rattle.std.specs.Vec.Iter.{into_iter_items}
+use Rattle.bus_semantics.specs.Common.{map-append, into_iter_items}
 use Rattle.cross_core_table.specs.declared.seats.CoreSeat.{CoreSeat}
 use Rattle.core_turn.specs.Cores.{CoreState}
 use Rattle.core_lanes.specs.declared.lanes.Lane.{Lane}

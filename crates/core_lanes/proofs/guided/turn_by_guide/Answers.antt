@@ -1,11 +1,7 @@
 use Rattle.std.proofs.Common.{◌≡◌, refl, sym, ◌∙◌, ap, subst}
 use Rattle.std.specs.Prelude.{IfSome}
-use Rattle.std.proofs.lemmas.Bool.{and_parts}
+use Rattle.bus_semantics.specs.Common.{and_parts, plan_of, fits, starts_its_own, touched_by, IsObject}
 use Rattle.bus_semantics.specs.declared.entries.Stamped.{Stamped}
-use Rattle.bus_semantics.specs.Plan.{plan_of}
-use Rattle.bus_semantics.specs.Fitting.{fits}
-use Rattle.bus_semantics.specs.Locality.{starts_its_own}
-use Rattle.bus_semantics.specs.Objects.{touched_by, IsObject}
 use Rattle.port_objects.specs.Benches.{written_last}
 use Rattle.core_lanes.proofs.Taken.{stepped_taken, last_is}
 use Rattle.core_lanes.proofs.Leaving.{nothing_said, another_held}

@@ -1,6 +1,5 @@
 use Rattle.std.proofs.Common.{◌≡◌, ◌<◌, length, sym, ◌∙◌, ap, subst, arith, Some}
-use Rattle.std.proofs.lemmas.Option.{slice_get-get_or, get_or_from_slice_get, slice_get_within}
-use Rattle.bus_semantics.specs.Plan.{plan_of}
+use Rattle.bus_semantics.specs.Common.{slice_get-get_or, get_or_from_slice_get, slice_get_within, plan_of}
 use Rattle.bus_semantics.proofs.Passing.{row_shared}
 use Rattle.core_lanes.specs.Lanes.{HasGone}
 use Rattle.core_lanes.proofs.Passing.{bodies_shared}

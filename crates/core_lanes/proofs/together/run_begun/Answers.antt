@@ -1,6 +1,5 @@
 use Rattle.std.proofs.Common.{◌≡◌, sym, ◌∙◌, ap, subst, arith, List, map, length, Some}
-use Rattle.std.specs.List.{slice_get}
-use Rattle.bus_semantics.specs.Plan.{plan_of}
+use Rattle.bus_semantics.specs.Common.{slice_get, plan_of}
 use Rattle.core_turn.specs.Cores.{CoreState}
 use Rattle.cross_core_table.specs.declared.seats.CoreSeat.{CoreSeat}
 use Rattle.cross_core_table.specs.Closing.{IsClosed}

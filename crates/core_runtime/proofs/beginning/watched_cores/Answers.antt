@@ -1,11 +1,7 @@
 use Rattle.std.proofs.Common.{◌≡◌, ◌≤◌, length, arith, sym, subst, Some, None}
 use Rattle.std.specs.Prelude.{nat_le}
-use Rattle.std.proofs.lemmas.Bool.{and_parts, leb-true}
-use Rattle.std.specs.List.{slice_get}
-use Rattle.bus_semantics.specs.SoundEvents.{event_sound}
-use Rattle.bus_semantics.specs.Plan.{plan_of, every_from}
-use Rattle.core_runtime.specs.Turns.{AreReady}
-use Rattle.core_runtime.specs.Watching.{IsWatch}
+use Rattle.bus_semantics.specs.Common.{and_parts, leb-true, slice_get, event_sound, plan_of, every_from}
+use Rattle.core_runtime.specs.Common.{AreReady, IsWatch}
 use Rattle.core_runtime.proofs.beginning.watched_cores.Goals as goal
 
 pub upkeep_of-requires-clause-ready : goal.upkeep_of-requires-clause-ready

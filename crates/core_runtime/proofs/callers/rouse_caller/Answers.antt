@@ -1,8 +1,6 @@
 use Rattle.std.proofs.Common.{◌≡◌, ℕ, sym, ◌∙◌, ap, subst}
-use Rattle.std.proofs.lemmas.Option.{same_Some, slice_get_past}
+use Rattle.bus_semantics.specs.Common.{same_Some, slice_get_past, Global, Contains, slice_get}
 use Rattle.std.specs.Prelude.{Vec}
-use Rattle.std.specs.Global.{Global}
-use Rattle.std.specs.List.{Contains, slice_get}
 use Rattle.core_runtime.specs.Watching.{IsAt}
 use Rattle.latches.proofs.Places.{found_at}
 use Rattle.core_runtime.proofs.callers.rouse_caller.Goals as goal

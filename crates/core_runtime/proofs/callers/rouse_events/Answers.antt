@@ -1,7 +1,5 @@
 use Rattle.std.proofs.Common.{◌≡◌, ◌<◌, inl, inr, length, get_or, sym, ◌∙◌, ap, subst, arith, Some}
-use Rattle.std.specs.List.{slice_get}
-use Rattle.std.proofs.lemmas.Bool.{cases_lt}
-use Rattle.std.proofs.lemmas.Option.{same_Some, slice_get-get_or}
+use Rattle.bus_semantics.specs.Common.{slice_get, cases_lt, same_Some, slice_get-get_or}
 use Rattle.core_runtime.specs.Watching.{IsAt}
 use Rattle.core_runtime.proofs.Wakes.{are_same, are_then, there_still, up_still}
 use Rattle.core_runtime.proofs.callers.rouse_events.Goals as goal

@@ -1,7 +1,6 @@
 use Rattle.std.proofs.Common.{◌≡◌, ◌<◌, ℕ, Some}
 use Rattle.std.specs.List.{slice_get}
-use Rattle.core_runtime.specs.declared.seats.Seat.{Seat}
-use Rattle.core_runtime.specs.Watching.{AreWoken, IsAt, IsUp}
+use Rattle.core_runtime.specs.Common.{Seat, AreWoken, IsAt, IsUp}
 use Rattle.core_runtime.proofs.callers.rouse_events.Given as goal
 
 abbrev pub invariant-loop-event : goal.invariant-loop-event

@@ -1,9 +1,6 @@
 use Rattle.std.proofs.Common.{◌≡◌, ◌<◌, inl, inr, length, get_or, sym, ◌∙◌, ap, subst, arith}
-use Rattle.std.specs.List.{slice_get}
-use Rattle.std.proofs.lemmas.Bool.{cases_lt}
-use Rattle.std.proofs.lemmas.Option.{same_Some, slice_get-get_or, slice_get_within}
-use Rattle.core_runtime.specs.declared.seats.Seat.{Seat}
-use Rattle.core_runtime.specs.Watching.{IsUp}
+use Rattle.bus_semantics.specs.Common.{slice_get, cases_lt, same_Some, slice_get-get_or, slice_get_within}
+use Rattle.core_runtime.specs.Common.{Seat, IsUp}
 use Rattle.core_runtime.proofs.Wakes.{are_same, are_then, there_still, up_still}
 use Rattle.core_runtime.proofs.callers.rouse_seats.Goals as goal
 

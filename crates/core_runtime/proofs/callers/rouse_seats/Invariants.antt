@@ -1,7 +1,6 @@
 use Rattle.std.proofs.Common.{◌≡◌, ◌<◌, ℕ, Some}
 use Rattle.std.specs.List.{slice_get}
-use Rattle.core_runtime.specs.declared.seats.Seat.{Seat}
-use Rattle.core_runtime.specs.Watching.{AreWoken, IsUp}
+use Rattle.core_runtime.specs.Common.{Seat, AreWoken, IsUp}
 use Rattle.core_runtime.proofs.callers.rouse_seats.Given as goal
 
 abbrev pub invariant-loop-seat : goal.invariant-loop-seat

@@ -1,7 +1,5 @@
 use Rattle.std.proofs.Common.{◌≡◌, sym, ◌∙◌, ap, Some}
-use Rattle.std.proofs.lemmas.Option.{same_Some, slice_get_past}
-use Rattle.std.specs.List.{slice_get}
-use Rattle.bus_semantics.specs.Plan.{plan_of, caller_of}
+use Rattle.bus_semantics.specs.Common.{same_Some, slice_get_past, slice_get, plan_of, caller_of}
 use Rattle.port_objects.specs.Waking.{heard_in}
 use Rattle.core_runtime.specs.declared.seats.Seat.{Seat}
 use Rattle.core_runtime.proofs.Called.{calls_at, inside, at_home, stands_at}

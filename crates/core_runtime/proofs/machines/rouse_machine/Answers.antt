@@ -1,6 +1,5 @@
 use Rattle.std.proofs.Common.{◌≡◌, ◌<◌, ◌+◌, true, false, get_or, set, sym, ◌∙◌, ap, subst}
-use Rattle.std.proofs.lemmas.List.{get_or-set_same}
-use Rattle.std.proofs.lemmas.Option.{same_Some}
+use Rattle.bus_semantics.specs.Common.{get_or-set_same, same_Some}
 use Rattle.core_runtime.proofs.Wakes.{woken_slot, woken_same}
 use Rattle.core_runtime.proofs.machines.rouse_machine.Goals as goal
 

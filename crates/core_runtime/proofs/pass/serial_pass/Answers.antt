@@ -1,9 +1,6 @@
 use Rattle.std.proofs.Common.{sym, ◌∙◌, subst}
-use Rattle.bus_semantics.specs.Plan.{plan_of}
-use Rattle.bus_semantics.specs.Rest.{IsIdle}
-use Rattle.bus_semantics.specs.Quiet.{IsQuiet}
-use Rattle.core_runtime.specs.Nodes.{NodeState, IsLawfulNode}
-use Rattle.core_runtime.specs.Turns.{EachTakesOne}
+use Rattle.bus_semantics.specs.Common.{plan_of, IsIdle, IsQuiet}
+use Rattle.core_runtime.specs.Common.{NodeState, IsLawfulNode, EachTakesOne}
 use Rattle.core_runtime.proofs.Ending.{is_idle, is_quiet}
 use Rattle.core_runtime.proofs.Rounded.{made_by, node_after, nothing_at_first, in_order}
 use Rattle.core_runtime.proofs.pass.serial_pass.Goals as goal

@@ -1,15 +1,11 @@
 use Rattle.std.proofs.Common.{◌≡◌, ◌<◌, ◌∙◌, ap, subst, sym, arith, length, map, true}
 use Rattle.std.specs.Prelude.{All, nat_lt}
-use Rattle.std.specs.List.{list_all}
-use Rattle.std.specs.Option.{option_map}
-use Rattle.std.proofs.lemmas.List.{length-map}
-use Rattle.std.proofs.lemmas.Option.{slice_get-map}
+use Rattle.bus_semantics.specs.Common.{list_all, option_map, length-map, slice_get-map, plan_of}
 use Rattle.core_turn.specs.Cores.{CoreState}
 use Rattle.task_slots.specs.Slots.{events_of_slot}
 use Rattle.core_runtime.specs.Watching.{IsOfCores, tables_of}
 use Rattle.latches.proofs.Places.{found_at}
 use Rattle.core_runtime.proofs.Seated.{adds_none, all_below, cores_on, cores_all}
-use Rattle.bus_semantics.specs.Plan.{plan_of}
 use Rattle.core_runtime.proofs.Known.{known_events}
 use Rattle.core_runtime.proofs.Watched.{mapped_found}
 use Rattle.core_runtime.proofs.seats.seats_of.Goals as goal

@@ -1,7 +1,5 @@
 use Rattle.std.proofs.Common.{refl, sym, ◌∙◌, subst}
-use Rattle.bus_semantics.specs.Plan.{plan_of}
-use Rattle.bus_semantics.specs.History.{Noted}
-use Rattle.bus_semantics.specs.Objects.{touched_by}
+use Rattle.bus_semantics.specs.Common.{plan_of, Noted, touched_by}
 use Rattle.core_runtime.specs.Watching.{AreSeated, AreStarters, AreWaiting, tables_of}
 use Rattle.core_runtime.proofs.Areas.{watched_even, woken_even, woken_waiting}
 use Rattle.core_runtime.proofs.Behind.{roused_still, watched_still}

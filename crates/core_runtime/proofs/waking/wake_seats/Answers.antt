@@ -1,10 +1,7 @@
 use Rattle.std.proofs.Common.{◌≡◌, ◌<◌, inl, inr, length, get_or, sym, ◌∙◌, ap, subst, arith}
-use Rattle.std.specs.List.{slice_get}
-use Rattle.std.proofs.lemmas.Bool.{cases_lt}
-use Rattle.std.proofs.lemmas.Option.{same_Some, slice_get-get_or, slice_get_within}
+use Rattle.bus_semantics.specs.Common.{slice_get, cases_lt, same_Some, slice_get-get_or, slice_get_within}
 use Rattle.port_objects.specs.Objects.{kept_of}
-use Rattle.core_runtime.specs.declared.seats.Seat.{Seat}
-use Rattle.core_runtime.specs.Watching.{IsSeen}
+use Rattle.core_runtime.specs.Common.{Seat, IsSeen}
 use Rattle.core_runtime.proofs.Wakes.{are_same, are_then, there_still, seen_still}
 use Rattle.core_runtime.proofs.waking.wake_seats.Goals as goal
 

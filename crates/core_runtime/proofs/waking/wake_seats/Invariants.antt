@@ -1,8 +1,7 @@
 use Rattle.std.proofs.Common.{◌≡◌, ◌<◌, ℕ, Some}
 use Rattle.std.specs.List.{slice_get}
 use Rattle.port_objects.specs.Objects.{kept_of}
-use Rattle.core_runtime.specs.declared.seats.Seat.{Seat}
-use Rattle.core_runtime.specs.Watching.{AreWoken, IsSeen}
+use Rattle.core_runtime.specs.Common.{Seat, AreWoken, IsSeen}
 use Rattle.core_runtime.proofs.waking.wake_seats.Given as goal
 
 abbrev pub invariant-loop-seat : goal.invariant-loop-seat

@@ -1,9 +1,6 @@
 use Rattle.std.proofs.Common.{◌≡◌, sym, ◌∙◌, ap, subst, Some}
-use Rattle.std.proofs.lemmas.Bool.{false≢true}
-use Rattle.std.proofs.lemmas.Option.{same_Some}
-use Rattle.std.specs.List.{Contains, slice_get}
-use Rattle.port_objects.specs.Objects.{kept_of}
-use Rattle.port_objects.specs.Waking.{wakes, woken_in}
+use Rattle.bus_semantics.specs.Common.{false≢true, same_Some, Contains, slice_get}
+use Rattle.port_objects.specs.Common.{kept_of, wakes, woken_in}
 use Rattle.core_runtime.specs.Watching.{IsSeen}
 use Rattle.latches.proofs.Places.{found_at, set_here}
 use Rattle.core_runtime.proofs.Wakes.{are_same}

@@ -1,20 +1,14 @@
 use Rattle.std.proofs.Common.{◌≡◌, ◌<◌, ◌≤◌, suc, ◌+◌, [], ◌∷◌, ◌++◌, length, get_or, set, sym, ◌∙◌, ap, subst, arith, inl, inr, Some, None}
-use Rattle.std.specs.List.{slice_get}
-use Rattle.std.proofs.lemmas.Bool.{cases_lt}
-use Rattle.std.proofs.lemmas.List.{get_or-set_same}
-use Rattle.std.proofs.lemmas.Option.{get_or_from_slice_get}
-use Rattle.bus_semantics.specs.Plan.{plan_of}
-use Rattle.bus_semantics.specs.Objects.{touched_by}
+use Rattle.bus_semantics.specs.Common.{slice_get, cases_lt, get_or-set_same, get_or_from_slice_get, plan_of, touched_by}
 use Rattle.place_set.specs.Places.{NoneBetween, IsFirst}
 use Rattle.task_slots.specs.declared.slot.Slot.{Slot}
-use Rattle.task_slots.specs.Look.{Made}
+use Rattle.task_slots.specs.Common.{Made, Looked, ObjectsLooked, EventsHeld, noting_of, SlotLooked}
 use Rattle.task_slots.specs.Slots.{listed_in, slot_tries, events_of_slot}
 use Rattle.task_slots.specs.Ready.{IsReadySlot}
-use Rattle.task_slots.specs.Looking.{Looked, ObjectsLooked}
 use Rattle.core_turn.specs.Awake.{AwakeState, Fits, HeldTold, IsSettled, SameBefore}
 use Rattle.core_turn.proofs.Counting.{SameFrom, before_row, before_settled, from_settled, counted_to, counted_at}
-use Rattle.task_slots.specs.Waiting.{flags, is_free, EventsHeld, looks_awake}
-use Rattle.task_slots.specs.Stepping.{noting_of, SlotLooked, SlotStep}
+use Rattle.task_slots.specs.Waiting.{flags, is_free, looks_awake}
+use Rattle.task_slots.specs.Stepping.{SlotStep}
 use Rattle.task_slots.proofs.Written.{look_is}
 use Rattle.core_turn.proofs.Passing.{set_same, pass_made, pass_lost}
 use Rattle.task_slots.proofs.Unchanged.{TriesHeld, unchanged_on, unchanged_by, held_by, looked_at}

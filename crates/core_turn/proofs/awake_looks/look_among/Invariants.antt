@@ -1,7 +1,5 @@
 use Rattle.std.proofs.Common.{◌≡◌, ℕ, ◌-◌, ◌<◌, ◌≤◌, [], length, Some, None}
-use Rattle.std.specs.List.{slice_get}
-use Rattle.std.specs.Vec.{vec_capacity}
-use Rattle.bus_semantics.specs.Plan.{plan_of}
+use Rattle.bus_semantics.specs.Common.{slice_get, vec_capacity, plan_of}
 use Rattle.task_slots.specs.declared.slot.Slot.{Slot}
 use Rattle.task_slots.specs.Slots.{slot_tries}
 use Rattle.port_objects.specs.Benches.{IsFurther}

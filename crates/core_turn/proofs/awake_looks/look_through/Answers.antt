@@ -1,9 +1,7 @@
 use Rattle.std.proofs.Common.{refl, subst, None}
-use Rattle.bus_semantics.specs.Plan.{plan_of}
-use Rattle.bus_semantics.specs.Rest.{gathered}
-use Rattle.task_slots.specs.Look.{Nothing}
+use Rattle.bus_semantics.specs.Common.{plan_of, gathered}
+use Rattle.task_slots.specs.Common.{Nothing, Looked}
 use Rattle.task_slots.specs.Slots.{slot_tries}
-use Rattle.task_slots.specs.Looking.{Looked}
 use Rattle.task_slots.proofs.Onward.{looked_uncounted}
 use Rattle.core_turn.specs.Awake.{HeldTold, looks_at_place}
 use Rattle.core_turn.proofs.Counting.{none_counted, same_before}

@@ -1,13 +1,10 @@
 use Rattle.std.proofs.Common.{◌≡◌, ◌-◌, ◌<◌, ◌≤◌, length, sym, ◌∙◌, ap, subst, refl, arith, [], ◌∷◌, ◌++◌, ◌+◌, suc, Some, None}
-use Rattle.std.specs.List.{slice_get}
-use Rattle.bus_semantics.specs.Plan.{plan_of}
-use Rattle.bus_semantics.specs.Objects.{touched_by}
+use Rattle.bus_semantics.specs.Common.{slice_get, plan_of, touched_by}
 use Rattle.core_turn.specs.Cores.{CoreState}
 use Rattle.port_objects.specs.Benches.{IsFurther}
-use Rattle.task_slots.specs.Waiting.{sum_below}
+use Rattle.task_slots.specs.Common.{sum_below, noting_of}
 use Rattle.core_turn.specs.Awake.{Fits, HeldTold, looks_at_place}
 use Rattle.core_turn.proofs.Counting.{turn_counted}
-use Rattle.task_slots.specs.Stepping.{noting_of}
 use Rattle.core_turn.proofs.Settling.{begins_at, held_round, held_turned, fits_begins}
 use Rattle.core_turn.proofs.Stepped.{ready_on, back_steps, front_steps, nothing_found, pass_at, made_within, behind_all, before_all, back_contended, front_contended, behind_lost, before_lost}
 use Rattle.task_slots.proofs.Unchanged.{unchanged_by}

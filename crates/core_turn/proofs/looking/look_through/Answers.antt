@@ -1,9 +1,7 @@
 use Rattle.std.proofs.Common.{◌≡◌, true, ◌<◌, ◌≤◌, length, get_or, set, refl, sym, ◌∙◌, ap, subst, arith, [], ◌∷◌, ◌++◌}
 use Rattle.bus_semantics.specs.Plan.{plan_of}
-use Rattle.task_slots.specs.Look.{Nothing}
+use Rattle.task_slots.specs.Common.{Nothing, Looked, SlotLooked}
 use Rattle.task_slots.specs.Slots.{slot_tries, events_of_slot}
-use Rattle.task_slots.specs.Looking.{Looked}
-use Rattle.task_slots.specs.Stepping.{SlotLooked}
 use Rattle.task_slots.specs.Waiting.{looks_awake}
 use Rattle.task_slots.proofs.Onward.{looked_as}
 use Rattle.task_slots.proofs.Counted.{all_looks}

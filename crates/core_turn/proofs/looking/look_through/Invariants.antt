@@ -1,11 +1,8 @@
 use Rattle.std.proofs.Common.{◌≡◌}
-use Rattle.std.specs.Vec.{vec_capacity}
-use Rattle.bus_semantics.specs.Plan.{plan_of}
-use Rattle.bus_semantics.specs.Rest.{gathered}
-use Rattle.task_slots.specs.Look.{Nothing}
+use Rattle.bus_semantics.specs.Common.{vec_capacity, plan_of, gathered}
+use Rattle.task_slots.specs.Common.{Nothing, Looked}
 use Rattle.task_slots.specs.Slots.{slot_tries}
 use Rattle.core_turn.specs.Cores.{slots_between, looks_in}
-use Rattle.task_slots.specs.Looking.{Looked}
 use Rattle.core_turn.proofs.looking.look_through.Given as goal
 
 abbrev pub invariant-loop-at : goal.invariant-loop-at

@@ -1,9 +1,8 @@
 use Rattle.std.proofs.Common.{◌≡◌, ◌<◌, suc, length, sym, ◌∙◌, ap, subst, refl, arith, [], ◌∷◌, ◌++◌, Some}
-use Rattle.std.specs.List.{slice_get}
-use Rattle.std.specs.Vec.{vec_capacity}
-use Rattle.bus_semantics.specs.Plan.{plan_of}
+use Rattle.bus_semantics.specs.Common.{slice_get, vec_capacity, plan_of}
 use Rattle.core_turn.specs.Cores.{CoreState}
-use Rattle.core_turn.proofs.Stepped.{ready_on, back_steps, front_steps, nothing_comes, pass_at, made_within, behind_all, before_all, behind_looks, before_looks, back_contended, front_contended, behind_lost, before_lost, room_taken, same_core}
+use Rattle.core_turn.proofs.Stepped.{ready_on, back_steps, front_steps, nothing_comes, pass_at, made_within, behind_all, before_all, behind_looks, before_looks, back_contended}
+use Rattle.core_turn.proofs.Stepped.{front_contended, behind_lost, before_lost, room_taken, same_core}
 use Rattle.core_turn.proofs.turning.turn.Goals as goal
 
 pub look_through-requires-clause-ready : goal.look_through-requires-clause-ready

@@ -1,6 +1,5 @@
 use Rattle.std.proofs.Common.{subst, Option}
-use Rattle.cross_core_table.specs.Places.{Place}
-use Rattle.cross_core_table.specs.Taking.{round_at, TakenIn}
+use Rattle.cross_core_table.specs.Common.{Place, round_at, TakenIn}
 use Rattle.cross_core_table.proofs.Takings.{first_taken, next_taken, joins_taken}
 use Rattle.cross_core_table.proofs.closing.take_in.Goals as goal
 

@@ -1,10 +1,7 @@
 use Rattle.std.proofs.Common.{◌≡◌, ◌++◌, ◌∷◌, [], ◌∙◌, List, map, length, sym, ap, subst, arith, append_assoc, append-nil}
-use Rattle.std.proofs.lemmas.List.{map-append, length-map}
-use Rattle.std.specs.Vec.Iter.{into_iter_items}
+use Rattle.bus_semantics.specs.Common.{map-append, length-map, into_iter_items}
 use Rattle.bus_semantics.specs.declared.entries.Stamped.{Stamped}
-use Rattle.cross_core_table.specs.declared.seats.CoreSeat.{CoreSeat}
-use Rattle.cross_core_table.specs.Seats.{made_of}
-use Rattle.cross_core_table.specs.Taking.{round_at, TakenIn}
+use Rattle.cross_core_table.specs.Common.{CoreSeat, made_of, round_at, TakenIn}
 use Rattle.cross_core_table.proofs.Takings.{at_seat, fewer, nothing_left}
 use Rattle.cross_core_table.proofs.closing.take_in_all.Goals as goal
 

@@ -1,9 +1,7 @@
 use Rattle.std.proofs.Common.{◌≡◌, ◌++◌, map, length}
 use Rattle.std.specs.Vec.{vec_capacity}
 use Rattle.std.specs.Vec.Iter.{into_iter_items, into_iter_len}
-use Rattle.cross_core_table.specs.Seats.{made_of}
-use Rattle.cross_core_table.specs.Taking.{round_at, TakenIn}
-use Rattle.cross_core_table.specs.Ordering.{items_of}
+use Rattle.cross_core_table.specs.Common.{made_of, round_at, TakenIn, items_of}
 use Rattle.cross_core_table.proofs.closing.take_in_all.Given as goal
 
 -- of the seats so far the first has taken in the others

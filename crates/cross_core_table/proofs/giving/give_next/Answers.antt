@@ -1,8 +1,7 @@
 use Rattle.std.proofs.Common.{◌∙◌, ap, refl, arith, List, ℕ}
 use Rattle.object_kinds.proofs.Lists.{at_index}
 use Rattle.port_objects.specs.declared.object.Object.{Object}
-use Rattle.cross_core_table.specs.declared.seats.CoreSeat.{CoreSeat}
-use Rattle.cross_core_table.specs.Plays.{giving}
+use Rattle.cross_core_table.specs.Common.{CoreSeat, giving}
 use Rattle.cross_core_table.proofs.Seating.{splits}
 use Rattle.cross_core_table.proofs.Opens.{given_next}
 use Rattle.cross_core_table.proofs.giving.give_next.Goals as goal

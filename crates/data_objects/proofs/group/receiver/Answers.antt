@@ -1,7 +1,6 @@
 use Rattle.std.proofs.Common.{◌≡◌, true, sym, ◌∙◌, ap, subst}
 use Rattle.bus_semantics.specs.Plan.{plan_of}
-use Rattle.object_kinds.specs.Layout.{place, members_of}
-use Rattle.object_kinds.specs.Rising.{is_rising}
+use Rattle.object_kinds.specs.Common.{place, members_of, is_rising}
 use Rattle.object_kinds.proofs.Lists.{at_index}
 use Rattle.object_kinds.proofs.Members.{listed_members, members_rise}
 use Rattle.data_objects.proofs.group.receiver.Goals as goal

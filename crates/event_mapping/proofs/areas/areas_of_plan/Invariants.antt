@@ -1,6 +1,5 @@
 use Rattle.std.proofs.Common.{◌≡◌, ◌++◌, drop}
-use Rattle.plan_definitions.specs.Lists.{from}
-use Rattle.plan_definitions.specs.Planned.{named_areas, areas_at}
+use Rattle.plan_definitions.specs.Common.{from, named_areas, areas_at}
 use Rattle.event_mapping.proofs.areas.areas_of_plan.Given as goal
 
 abbrev pub invariant-loop-number : goal.invariant-loop-number

@@ -1,7 +1,6 @@
 use Rattle.std.proofs.Common.{List, map, sym, ap, subst, ◌∙◌}
 use Rattle.bus_semantics.specs.declared.plan.RunnablePlan.{RunnablePlan}
-use Rattle.bus_semantics.specs.Codes.{HaveOneCode}
-use Rattle.bus_semantics.specs.Plan.{runnable_of}
+use Rattle.bus_semantics.specs.Common.{HaveOneCode, runnable_of}
 use Rattle.event_mapping.proofs.build.runnables_of.Goals as goal
 
 pub returns-clause-listed : goal.returns-clause-listed

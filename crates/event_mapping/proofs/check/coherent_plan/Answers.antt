@@ -1,8 +1,7 @@
 use Rattle.std.proofs.Common.{Err}
 use Rattle.bus_semantics.specs.declared.plan.BusPlan.{BusPlan}
 use Rattle.plan_definitions.specs.declared.component_rule.ComponentRule.TheVariants as rule
-use Rattle.plan_definitions.specs.ComponentRefusals.{of_rule}
-use Rattle.plan_definitions.specs.PlanRefusals.{IsOfLists}
+use Rattle.plan_definitions.specs.Common.{of_rule, IsOfLists}
 use Rattle.event_mapping.proofs.Telling.{as_told, still_tells}
 use Rattle.event_mapping.proofs.check.coherent_plan.Goals as goal
 

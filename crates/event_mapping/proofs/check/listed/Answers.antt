@@ -2,9 +2,7 @@ use Rattle.std.proofs.Common.{◌<◌, ◌^◌, length, sym, ◌∙◌}
 use Rattle.bus_semantics.specs.declared.plan.BusPlan.{BusPlan}
 use Rattle.bus_semantics.specs.declared.script.Mapping.{Mapping}
 use Rattle.plan_definitions.specs.declared.part.Part.TheVariants.{Events}
-use Rattle.plan_definitions.specs.Parts.{events_of}
-use Rattle.plan_definitions.specs.PlanRefusals.{IsOfLists, IsOfSize, IsThen}
-use Rattle.plan_definitions.specs.Tasks.{mapping_of}
+use Rattle.plan_definitions.specs.Common.{events_of, IsOfLists, IsOfSize, IsThen, mapping_of}
 use Rattle.event_mapping.proofs.Telling.{still_tells}
 use Rattle.event_mapping.proofs.check.listed.Goals as goal
 use Rattle.mapping_rules.proofs.Telling.{moved}

@@ -2,8 +2,7 @@ use Rattle.bus_semantics.specs.declared.plan.BusPlan.{BusPlan}
 use Rattle.bus_semantics.specs.declared.script.Mapping.{Mapping}
 use Rattle.mapping_rules.specs.declared.kept.KeptMapping.{KeptMapping}
 use Rattle.plan_definitions.specs.MappingRefusals as rules
-use Rattle.plan_definitions.specs.MappingRules.{HaveOrder}
-use Rattle.plan_definitions.specs.PlanRefusals.{IsOfLists, IsOfSize, IsThen}
+use Rattle.plan_definitions.specs.Common.{HaveOrder, IsOfLists, IsOfSize, IsThen}
 use Rattle.event_mapping.proofs.Telling.{on_ok, then_first, then_later}
 use Rattle.event_mapping.proofs.check.mapped_plan.Goals as goal
 

@@ -2,8 +2,7 @@ use Rattle.std.proofs.Common.{subst}
 use Rattle.event_mapping.specs.Foretold.{IsForetold}
 use Rattle.bus_semantics.specs.declared.plan.BusPlan.{BusPlan}
 use Rattle.bus_semantics.specs.declared.script.Mapping.{Mapping}
-use Rattle.plan_definitions.specs.Planned.{plan_of}
-use Rattle.plan_definitions.specs.PlanRefusals.{IsOfLists}
+use Rattle.plan_definitions.specs.Common.{plan_of, IsOfLists}
 use Rattle.event_mapping.proofs.Counting.{few_things}
 use Rattle.event_mapping.proofs.Telling.{size_refused}
 use Rattle.event_mapping.proofs.check.planned.Goals as goal

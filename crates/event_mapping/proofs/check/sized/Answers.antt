@@ -1,7 +1,6 @@
 use Rattle.std.proofs.Common.{sym, ◌∙◌}
 use Rattle.bus_semantics.specs.declared.plan.BusPlan.{BusPlan}
-use Rattle.plan_definitions.specs.Planned.{plan_of}
-use Rattle.plan_definitions.specs.PlanRefusals.{IsOfLists}
+use Rattle.plan_definitions.specs.Common.{plan_of, IsOfLists}
 use Rattle.event_mapping.proofs.Sized.{same_size}
 use Rattle.event_mapping.proofs.Telling.{size_kept, size_refused}
 use Rattle.event_mapping.proofs.check.sized.Goals as goal

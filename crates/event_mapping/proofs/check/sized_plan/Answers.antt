@@ -1,7 +1,5 @@
 use Rattle.std.proofs.Common.{◌≡◌, IfOk}
-use Rattle.plan_definitions.specs.MappingRefusals.{Tells}
-use Rattle.plan_definitions.specs.Planned.{plan_of, seen}
-use Rattle.plan_definitions.specs.PlanRefusals.{IsOfLists, IsOfSize, IsThen}
+use Rattle.plan_definitions.specs.Common.{Tells, plan_of, seen, IsOfLists, IsOfSize, IsThen}
 use Rattle.event_mapping.proofs.check.sized_plan.Goals as goal
 use Rattle.mapping_rules.proofs.Telling.{moved}
 

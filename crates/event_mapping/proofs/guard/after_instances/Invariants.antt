@@ -1,6 +1,5 @@
 use Rattle.std.proofs.Common.{◌≡◌, ◌-◌, slice_get, take}
-use Rattle.std.specs.List.{sum_by}
-use Rattle.std.specs.Option.{unwrap_or}
+use Rattle.bus_semantics.specs.Common.{sum_by, unwrap_or}
 use Rattle.event_mapping.proofs.guard.after_instances.Given as goal
 
 abbrev pub invariant-loop-instance : goal.invariant-loop-instance

@@ -1,6 +1,5 @@
 use Rattle.std.proofs.Common.{map, ap, ◌∙◌}
-use Rattle.plan_definitions.specs.Elements.{elem_seen}
-use Rattle.description_types.specs.declared.flat.Instance.{Instance}
+use Rattle.plan_definitions.specs.Common.{elem_seen, Instance}
 use Rattle.event_mapping.proofs.pieces.items_of.Goals as goal
 
 pub returns : goal.returns

@@ -1,7 +1,6 @@
 use Rattle.std.proofs.Common.{◌-◌, ◌∙◌}
 use Rattle.std.specs.List.{sum_by}
-use Rattle.plan_definitions.specs.Elements.{elem_seen}
-use Rattle.plan_definitions.specs.PlanRules.{received, requested}
+use Rattle.plan_definitions.specs.Common.{elem_seen, received, requested}
 use Rattle.event_mapping.proofs.Spending.{three_spent}
 use Rattle.event_mapping.proofs.Summing.{sum_seen}
 use Rattle.event_mapping.proofs.size.after_queues.Goals as goal

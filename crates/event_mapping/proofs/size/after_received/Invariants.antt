@@ -1,7 +1,6 @@
 use Rattle.std.proofs.Common.{◌≡◌, ◌-◌, take}
 use Rattle.std.specs.List.{sum_by}
-use Rattle.plan_definitions.specs.Elements.{elem_seen}
-use Rattle.plan_definitions.specs.PlanRules.{received}
+use Rattle.plan_definitions.specs.Common.{elem_seen, received}
 use Rattle.event_mapping.proofs.size.after_received.Given as goal
 
 abbrev pub invariant-loop-element : goal.invariant-loop-element

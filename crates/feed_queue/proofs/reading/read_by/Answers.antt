@@ -1,6 +1,5 @@
 use Rattle.std.proofs.Common.{◌≡◌, ◌<◌, ℕ, ◌++◌, map, rules}
-use Rattle.bus_semantics.specs.Plan.{plan_of}
-use Rattle.bus_semantics.specs.Wanted.{wanted_of}
+use Rattle.bus_semantics.specs.Common.{plan_of, wanted_of}
 use Rattle.feed_queue.specs.Gifts.{wishes_at}
 use Rattle.feed_queue.specs.Heard.{heard_as}
 use Rattle.feed_queue.specs.Reading.{given_to}

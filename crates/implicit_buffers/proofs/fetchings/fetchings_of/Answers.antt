@@ -1,10 +1,7 @@
 use Rattle.std.proofs.Common.{◌≡◌, ◌++◌, ℕ, List, nat_eq, false, rules, sym, ap, ◌∙◌}
-use Rattle.std.specs.List.{list_any}
-use Rattle.std.proofs.lemmas.List.{append-nil}
-use Rattle.std.proofs.lemmas.Slice.Zip.{Zip-more, either_empty_from_Zip}
+use Rattle.bus_semantics.specs.Common.{list_any, append-nil, either_empty_from_Zip, plan_of, runnable_of, list_with}
+use Rattle.std.proofs.lemmas.Slice.Zip.{Zip-more}
 use Rattle.indexmap.specs.IndexSet.{contains}
-use Rattle.bus_semantics.specs.Plan.{plan_of, runnable_of}
-use Rattle.bus_semantics.specs.Activations.{list_with}
 use Rattle.implicit_buffers.specs.Buffers.{is_implicit}
 use Rattle.implicit_buffers.specs.Fetchings.{implicits_of, in_turn}
 use Rattle.implicit_buffers.proofs.Listing.{none_yet, access_more, turns_end}

@@ -1,7 +1,6 @@
 use Rattle.std.proofs.Common.{◌≡◌, ◌++◌, [], nat_eq}
 use Rattle.indexmap.specs.IndexSet.{contains}
-use Rattle.bus_semantics.specs.Plan.{plan_of, runnable_of}
-use Rattle.bus_semantics.specs.Activations.{in_order}
+use Rattle.bus_semantics.specs.Common.{plan_of, runnable_of, in_order}
 use Rattle.implicit_buffers.specs.Buffers.{is_implicit}
 use Rattle.implicit_buffers.specs.Fetchings.{implicits_of, in_turn}
 use Rattle.implicit_buffers.proofs.fetchings.fetchings_of.Given as goal

@@ -1,10 +1,7 @@
 use Rattle.std.proofs.Common.{◌≡◌, ◌+◌, ◌-◌, ◌<◌, Some, nat_eq, if◌then◌else◌, drop, get_or, length, refl, sym, ap, ◌∙◌, arith}
 use Rattle.std.specs.Prelude.{◌==◌}
-use Rattle.std.specs.List.{list_any}
-use Rattle.std.specs.Map.{lookup}
+use Rattle.bus_semantics.specs.Common.{list_any, lookup, plan_of, list_with}
 use Rattle.indexmap.specs.IndexMap.{get}
-use Rattle.bus_semantics.specs.Plan.{plan_of}
-use Rattle.bus_semantics.specs.Activations.{list_with}
 use Rattle.implicit_buffers.proofs.Listing.{list_more, no_more}
 use Rattle.implicit_buffers.proofs.fetchings.lists_by_element.Goals as goal
 

@@ -1,7 +1,6 @@
 use Rattle.std.proofs.Common.{◌≡◌, ◌≤◌, ℕ, drop, length, nat_eq}
 use Rattle.indexmap.specs.IndexMap.{get}
-use Rattle.bus_semantics.specs.Plan.{plan_of}
-use Rattle.bus_semantics.specs.Activations.{list_with}
+use Rattle.bus_semantics.specs.Common.{plan_of, list_with}
 use Rattle.implicit_buffers.proofs.fetchings.lists_by_element.Given as goal
 
 abbrev pub invariant-loop-left : goal.invariant-loop-left

@@ -1,7 +1,6 @@
 use Rattle.std.proofs.Common.{ℕ, ℤ, List, ap}
 use Rattle.runnable_lang.specs.declared.program.AccessKind.TheVariants.{IRead, IrvIRead}
-use Rattle.bus_semantics.specs.Programs.{Go}
-use Rattle.bus_semantics.specs.State.{put_all, words_under, access}
+use Rattle.bus_semantics.specs.Common.{Go, put_all, words_under, access}
 use Rattle.implicit_buffers.proofs.Keeping.{leaves_what_was_fetched}
 use Rattle.implicit_buffers.proofs.laws.programs_leave_what_was_fetched.Goals as goal
 

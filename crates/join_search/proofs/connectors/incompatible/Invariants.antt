@@ -1,6 +1,5 @@
 use Rattle.std.proofs.Common.{◌≡◌, ℕ, drop, option_map}
-use Rattle.plan_definitions.specs.Connectors.{incompatible_in}
-use Rattle.plan_definitions.specs.Firsts.{first_of}
+use Rattle.plan_definitions.specs.Common.{incompatible_in, first_of}
 use Rattle.join_search.specs.Passed.{HavePassed}
 use Rattle.join_search.proofs.connectors.incompatible.Given as goal
 

@@ -1,6 +1,5 @@
 use Rattle.std.proofs.Common.{◌≡◌, drop, Some, None, if◌then◌else◌}
-use Rattle.plan_definitions.specs.Connectors.{joins_compatible}
-use Rattle.plan_definitions.specs.Firsts.{first_of}
+use Rattle.plan_definitions.specs.Common.{joins_compatible, first_of}
 use Rattle.join_search.specs.Passed.{HavePassed}
 use Rattle.join_search.proofs.connectors.incompatible_in.Given as goal
 

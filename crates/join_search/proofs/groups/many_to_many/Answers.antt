@@ -1,9 +1,7 @@
 use Rattle.std.proofs.Common.{◌≡◌, ◌↔◌, true, subst}
 use Rattle.std.proofs.lemmas.Result.{IfOk-weaker}
 use Rattle.indexmap.specs.IndexSet.{contains}
-use Rattle.description_types.specs.declared.flat.End.{End}
-use Rattle.plan_definitions.specs.JoinGroups.{IsManyToMany}
-use Rattle.plan_definitions.specs.Joins.{is_many_to_many}
+use Rattle.plan_definitions.specs.Common.{End, IsManyToMany, is_many_to_many}
 use Rattle.join_search.specs.Partners.{key_of, same_key}
 use Rattle.join_search.proofs.Stars.{known_groups}
 use Rattle.join_search.proofs.groups.many_to_many.Goals as goal

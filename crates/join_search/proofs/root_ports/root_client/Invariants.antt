@@ -1,6 +1,5 @@
 use Rattle.std.proofs.Common.{◌≡◌, drop, Some, None, if◌then◌else◌}
-use Rattle.plan_definitions.specs.Connectors.{requires_server}
-use Rattle.plan_definitions.specs.Firsts.{first_of}
+use Rattle.plan_definitions.specs.Common.{requires_server, first_of}
 use Rattle.join_search.proofs.root_ports.root_client.Given as goal
 
 abbrev pub invariant-loop-position : goal.invariant-loop-position

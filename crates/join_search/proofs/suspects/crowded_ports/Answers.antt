@@ -1,8 +1,7 @@
 use Rattle.std.proofs.Common.{◌≡◌, true, ◌∙◌}
 use Rattle.std.proofs.lemmas.Result.{IfOk-weaker}
 use Rattle.indexmap.specs.IndexSet.{contains}
-use Rattle.description_types.specs.declared.flat.End.{End}
-use Rattle.plan_definitions.specs.Joins.{is_many_to_many}
+use Rattle.plan_definitions.specs.Common.{End, is_many_to_many}
 use Rattle.join_search.specs.Partners.{same_key}
 use Rattle.join_search.specs.Suspects.{PortKey, among_at, port_of, same_port}
 use Rattle.join_search.proofs.Suspecting.{crowded_there}

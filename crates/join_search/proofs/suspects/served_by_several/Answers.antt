@@ -1,8 +1,7 @@
 use Rattle.std.proofs.Common.{◌≡◌, true, sym, ◌∙◌, true≢false}
 use Rattle.std.proofs.lemmas.Result.{IfOk-weaker}
 use Rattle.indexmap.specs.IndexSet.{contains}
-use Rattle.description_types.specs.declared.flat.End.{End}
-use Rattle.plan_definitions.specs.Joins.{are_several, providers}
+use Rattle.plan_definitions.specs.Common.{End, are_several, providers}
 use Rattle.join_search.specs.Suspects.{PortKey, port_of, same_port, several_at}
 use Rattle.join_search.proofs.Suspecting.{several_there}
 use Rattle.join_search.proofs.suspects.served_by_several.Goals as goal

@@ -1,7 +1,6 @@
 use Rattle.std.proofs.Common.{◌≡◌, ◌∙◌, List, subst}
-use Rattle.std.specs.List.{position}
+use Rattle.bus_semantics.specs.Common.{position, runnable_of}
 use Rattle.bus_semantics.specs.declared.plan.RunnablePlan.{RunnablePlan}
-use Rattle.bus_semantics.specs.Plan.{runnable_of}
 use Rattle.line_fields.specs.Named.{is_runnable}
 use Rattle.line_fields.proofs.Found.{position-map}
 use Rattle.line_fields.proofs.finding.runnable_named.Goals as goal

@@ -1,6 +1,5 @@
 use Rattle.std.proofs.Common.{◌≡◌, suc, refl, sym, ◌∙◌, ap, subst, arith, List, [], ◌∷◌, ◌++◌, map, length, Some}
-use Rattle.std.specs.List.{flat_map}
-use Rattle.std.proofs.lemmas.List.{length-map, length_push}
+use Rattle.bus_semantics.specs.Common.{flat_map, length-map, length_push}
 use Rattle.core_turn.specs.Cores.{CoreState}
 use Rattle.cross_core_table.specs.declared.seats.CoreSeat.{CoreSeat}
 use Rattle.cross_core_table.specs.Closing.{IsClosed}

@@ -1,8 +1,6 @@
 use Rattle.std.proofs.Common.{◌≡◌, ◌≤◌, ◌<◌, ◌++◌, ◌∷◌, [], suc, refl, sym, ◌∙◌, ap, subst, arith, List, length, map, take, Some}
 use Rattle.std.specs.Prelude.{sum}
-use Rattle.std.specs.List.{slice_get}
-use Rattle.std.proofs.lemmas.List.{length-map, length_push}
-use Rattle.bus_semantics.specs.Plan.{plan_of}
+use Rattle.bus_semantics.specs.Common.{slice_get, length-map, length_push, plan_of}
 use Rattle.port_objects.specs.declared.object.Object.{Object}
 use Rattle.port_objects.specs.Objects.{ArePlans}
 use Rattle.live_lanes.specs.declared.caller.Caller.{Caller}

@@ -1,12 +1,8 @@
 use Rattle.std.proofs.Common.{◌≡◌, ◌<◌, ◌++◌, ◌∷◌, [], refl, sym, ◌∙◌, ap, subst, arith, length, Some}
 use Rattle.std.specs.Prelude.{sum}
-use Rattle.std.specs.List.{slice_get}
+use Rattle.bus_semantics.specs.Common.{slice_get, wish_fits, plan_of, wanted_of}
 use Rattle.bus_semantics.specs.declared.entries.Actor.TheVariants.{Env}
-use Rattle.bus_semantics.specs.Fitting.{wish_fits}
-use Rattle.bus_semantics.specs.Plan.{plan_of}
-use Rattle.bus_semantics.specs.Wanted.{wanted_of}
-use Rattle.cross_core_table.specs.Logs.{plan_in}
-use Rattle.cross_core_table.specs.OpenRounds.{OpenRound}
+use Rattle.cross_core_table.specs.Common.{plan_in, OpenRound}
 use Rattle.feed_queue.specs.Feeds.{length_of, times}
 use Rattle.feed_queue.specs.Passes.{order_of}
 use Rattle.feed_queue.specs.Given.{lengths_of}

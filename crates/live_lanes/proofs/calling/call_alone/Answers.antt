@@ -1,8 +1,6 @@
 use Rattle.std.proofs.Common.{◌≡◌, sym, subst, None}
 use Rattle.bus_semantics.specs.declared.entries.Actor.TheVariants.{Env}
-use Rattle.bus_semantics.specs.Objects.{touched_by}
-use Rattle.bus_semantics.specs.Plan.{plan_of}
-use Rattle.bus_semantics.specs.Wanted.{wanted_of}
+use Rattle.bus_semantics.specs.Common.{touched_by, plan_of, wanted_of}
 use Rattle.core_lanes.proofs.Calls.{touches_none}
 use Rattle.live_lanes.proofs.Called.{called_alone}
 use Rattle.live_lanes.proofs.calling.call_alone.Goals as goal

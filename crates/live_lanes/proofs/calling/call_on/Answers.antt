@@ -1,9 +1,7 @@
 use Rattle.std.proofs.Common.{◌≡◌, refl, sym, ◌∙◌, ap, subst, length}
 use Rattle.bus_semantics.specs.declared.entries.Actor.TheVariants.{Env}
-use Rattle.bus_semantics.specs.Plan.{plan_of}
-use Rattle.bus_semantics.specs.Wanted.{wanted_of}
-use Rattle.cross_core_table.specs.Logs.{plan_in}
-use Rattle.cross_core_table.specs.OpenRounds.{OpenRound}
+use Rattle.bus_semantics.specs.Common.{plan_of, wanted_of}
+use Rattle.cross_core_table.specs.Common.{plan_in, OpenRound}
 use Rattle.live_lanes.specs.Calls.{HasCalled, HaveStood}
 use Rattle.live_lanes.proofs.Called.{asked_in, never_waits, called_then}
 use Rattle.live_lanes.proofs.calling.call_on.Goals as goal

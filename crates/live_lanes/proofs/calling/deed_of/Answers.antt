@@ -1,7 +1,5 @@
 use Rattle.std.proofs.Common.{sym, ◌∙◌}
-use Rattle.std.proofs.lemmas.Bool.{false≢true}
-use Rattle.bus_semantics.specs.Plan.{plan_of}
-use Rattle.bus_semantics.specs.Wanted.{wanted_of}
+use Rattle.bus_semantics.specs.Common.{false≢true, plan_of, wanted_of}
 use Rattle.core_lanes.proofs.Calls.{is_free_one}
 use Rattle.live_lanes.proofs.calling.deed_of.Goals as goal
 

@@ -1,7 +1,5 @@
 use Rattle.std.proofs.Common.{◌≡◌, ◌++◌, ◌∷◌, [], ◌∙◌, List, length, length-append, append_assoc, sym, ap, arith, map}
-use Rattle.std.proofs.lemmas.List.{length-map, map-append}
-use Rattle.std.specs.List.{flat_map}
-use Rattle.std.specs.Vec.Iter.{into_iter_items}
+use Rattle.bus_semantics.specs.Common.{length-map, map-append, flat_map, into_iter_items}
 use Rattle.cross_core_table.specs.declared.seats.CoreSeat.{CoreSeat}
 use Rattle.core_turn.specs.Cores.{CoreState}
 use Rattle.live_lanes.specs.declared.lanes.Lane.{Lane}

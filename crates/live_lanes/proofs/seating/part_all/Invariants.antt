@@ -1,7 +1,6 @@
 use Rattle.std.proofs.Common.{◌≡◌, ◌≤◌, ◌+◌, ◌++◌, map, length}
-use Rattle.std.specs.List.{flat_map}
-use Rattle.std.specs.Vec.{vec_capacity}
-use Rattle.std.specs.Vec.Iter.{into_iter_items, into_iter_len}
+use Rattle.bus_semantics.specs.Common.{flat_map, vec_capacity, into_iter_items}
+use Rattle.std.specs.Vec.Iter.{into_iter_len}
 use Rattle.live_lanes.specs.Lanes.{core_in, seats_in}
 use Rattle.live_lanes.specs.Workers.{lane_in}
 use Rattle.live_lanes.proofs.seating.part_all.Given as goal

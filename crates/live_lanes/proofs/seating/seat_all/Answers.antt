@@ -1,6 +1,5 @@
 use Rattle.std.proofs.Common.{◌≡◌, ◌++◌, ◌∷◌, [], refl, sym, ◌∙◌, ap, subst, arith, List, length, Some}
-use Rattle.std.proofs.lemmas.List.{length_push}
-use Rattle.std.specs.Vec.Iter.{into_iter_items}
+use Rattle.bus_semantics.specs.Common.{length_push, into_iter_items}
 use Rattle.core_turn.specs.Cores.{CoreState}
 use Rattle.cross_core_table.specs.declared.seats.CoreSeat.{CoreSeat}
 use Rattle.live_lanes.specs.declared.lanes.Lane.{Lane}

@@ -2,8 +2,7 @@ use Rattle.std.proofs.Common.{List, ℕ, subst}
 use Rattle.rte_text.specs.Sinks.{ToldAfter}
 use Rattle.rte_text.specs.Told.{prefix_first, told_after}
 use Rattle.bus_semantics.specs.declared.version.Version.TheVariants.{Two}
-use Rattle.bus_semantics.specs.Plan.{plan_of}
-use Rattle.bus_semantics.specs.Spelling.{entry_text}
+use Rattle.bus_semantics.specs.Common.{plan_of, entry_text}
 use Rattle.live_node.specs.Printing.{feed_mark}
 use Rattle.live_node.proofs.Texts.{plain_entry}
 use Rattle.live_node.proofs.printing.put_call.Goals as goal

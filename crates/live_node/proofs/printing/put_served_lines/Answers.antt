@@ -1,9 +1,7 @@
 use Rattle.std.proofs.Common.{◌≡◌, ◌∙◌, refl, subst, take, true}
-use Rattle.std.specs.List.{list_all}
-use Rattle.std.proofs.lemmas.Bool.{and_from}
+use Rattle.bus_semantics.specs.Common.{list_all, and_from, plan_of}
 use Rattle.std.proofs.lemmas.List.Folds.{list_all_more}
 use Rattle.bus_semantics.specs.declared.entries.Stamped.{Stamped}
-use Rattle.bus_semantics.specs.Plan.{plan_of}
 use Rattle.script_run.specs.Sizes.{is_sized_stamped}
 use Rattle.live_node.proofs.Texts.{cut_line, more_lines, order_next}
 use Rattle.live_node.proofs.printing.put_served_lines.Goals as goal

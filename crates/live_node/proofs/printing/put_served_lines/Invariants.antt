@@ -1,7 +1,6 @@
 use Rattle.std.proofs.Common.{◌≡◌, take, true}
-use Rattle.std.specs.List.{list_all}
+use Rattle.bus_semantics.specs.Common.{list_all, plan_of}
 use Rattle.rte_text.specs.Sinks.{AppendsWhereTold}
-use Rattle.bus_semantics.specs.Plan.{plan_of}
 use Rattle.script_run.specs.Sizes.{is_sized_stamped}
 use Rattle.live_node.specs.Printing.{served_lines}
 use Rattle.live_node.proofs.Texts.{order_after}

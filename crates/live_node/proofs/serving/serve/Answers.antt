@@ -1,6 +1,6 @@
 use Rattle.std.proofs.Common.{◌≡◌, ◌≤◌, ◌<◌, refl, sym, ◌∙◌, ap, subst, arith, List, length, true}
 use Rattle.bus_semantics.specs.declared.script.Mapping.{Mapping}
-use Rattle.bus_semantics.specs.Plan.{plan_of}
+use Rattle.bus_semantics.specs.Common.{plan_of, stamps_count}
 use Rattle.bus_semantics.specs.declared.plan.BusPlan.{BusPlan}
 use Rattle.core_turn.specs.Lawful.{IsLawful}
 use Rattle.port_objects.specs.Objects.{ArePlans}
@@ -9,9 +9,7 @@ use Rattle.core_runtime.proofs.Together.{node_count}
 use Rattle.core_runtime.specs.Parting.{IsParts}
 use Rattle.core_runtime.proofs.Parting.{parts_on}
 use Rattle.feed_queue.specs.Reading.{AreFeeds}
-use Rattle.bus_semantics.specs.Interleaving.{stamps_count}
-use Rattle.core_runtime.specs.After.{after}
-use Rattle.core_runtime.specs.Nodes.{IsLawfulNode}
+use Rattle.core_runtime.specs.Common.{after, IsLawfulNode}
 use Rattle.feed_queue.specs.Passes.{order_of}
 use Rattle.live_lanes.specs.Calls.{called_in}
 use Rattle.live_lanes.specs.Drawn.{IsDrawn}

@@ -1,6 +1,5 @@
 use Rattle.std.proofs.Common.{◌≡◌, ℕ, drop, is_some}
-use Rattle.plan_definitions.specs.Firsts.{first_of, unless}
-use Rattle.plan_definitions.specs.Mapped.{named_by}
+use Rattle.plan_definitions.specs.Common.{first_of, unless, named_by}
 use Rattle.mapping_rules.proofs.check.unnamed.Given as goal
 
 abbrev pub invariant-loop-number : goal.invariant-loop-number

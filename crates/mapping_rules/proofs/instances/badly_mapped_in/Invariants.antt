@@ -1,7 +1,5 @@
 use Rattle.std.proofs.Common.{◌≡◌, ℕ, drop, length}
-use Rattle.plan_definitions.specs.Firsts.{first_of, unless}
-use Rattle.plan_definitions.specs.Mapped.{mapped_as}
-use Rattle.plan_definitions.specs.MappingRules.{is_mapped_well}
+use Rattle.plan_definitions.specs.Common.{first_of, unless, mapped_as, is_mapped_well}
 use Rattle.mapping_rules.proofs.instances.badly_mapped_in.Given as goal
 
 abbrev pub invariant-loop-number : goal.invariant-loop-number

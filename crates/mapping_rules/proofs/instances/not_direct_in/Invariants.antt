@@ -1,6 +1,5 @@
 use Rattle.std.proofs.Common.{◌≡◌, ℕ, drop}
-use Rattle.plan_definitions.specs.Firsts.{first_of, unless}
-use Rattle.plan_definitions.specs.MappingRules.{keeps_direct}
+use Rattle.plan_definitions.specs.Common.{first_of, unless, keeps_direct}
 use Rattle.mapping_rules.proofs.instances.not_direct_in.Given as goal
 
 abbrev pub invariant-loop-number : goal.invariant-loop-number

@@ -1,7 +1,6 @@
 use Rattle.std.proofs.Common.{◌≡◌, ℕ, drop, nat_eq}
-use Rattle.plan_definitions.specs.Firsts.{first_of, unless}
+use Rattle.plan_definitions.specs.Common.{first_of, unless, are_same}
 use Rattle.mapping_rules.specs.Groups.{values_at}
-use Rattle.plan_definitions.specs.MappingRules.{are_same}
 use Rattle.mapping_rules.proofs.instances.spread_among.Given as goal
 
 abbrev pub invariant-loop-number : goal.invariant-loop-number

@@ -1,6 +1,5 @@
 use Rattle.std.proofs.Common.{◌≡◌, ◌<◌, ◌^◌, IfOk, length, sym}
-use Rattle.plan_definitions.specs.Parts.{events_of}
-use Rattle.plan_definitions.specs.Tasks.{are_mapped, mapping_of}
+use Rattle.plan_definitions.specs.Common.{events_of, are_mapped, mapping_of}
 use Rattle.mapping_rules.proofs.Telling.{moved}
 use Rattle.mapping_rules.proofs.tasks.list_mapping.Goals as goal
 

@@ -1,7 +1,6 @@
 use Rattle.std.proofs.Common.{◌∙◌, ◌||◌, ap, refl}
 use Rattle.indexmap.specs.IndexSet.{contains}
-use Rattle.plan_definitions.specs.Keys.{same_pair}
-use Rattle.plan_definitions.specs.MappingRules.{waits_by}
+use Rattle.plan_definitions.specs.Common.{same_pair, waits_by}
 use Rattle.mapping_rules.specs.Waiting.{pairs}
 use Rattle.mapping_rules.proofs.Adding.{each_more}
 use Rattle.mapping_rules.proofs.waits.add_of_runnable.Goals as goal

@@ -1,8 +1,7 @@
 use Rattle.std.proofs.Common.{◌≡◌, ℕ, ◌||◌, drop, nat_eq}
 use Rattle.indexmap.specs.IndexSet.{contains}
-use Rattle.plan_definitions.specs.Keys.{same_pair}
+use Rattle.plan_definitions.specs.Common.{same_pair, waits_by}
 use Rattle.mapping_rules.specs.Groups.{values_at}
-use Rattle.plan_definitions.specs.MappingRules.{waits_by}
 use Rattle.mapping_rules.specs.Waiting.{any_at, pairs}
 use Rattle.mapping_rules.proofs.waits.add_of_runnables.Given as goal
 

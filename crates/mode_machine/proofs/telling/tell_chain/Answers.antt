@@ -1,9 +1,7 @@
 use Rattle.std.proofs.Common.{◌<◌, ◌≤◌, ◌+◌, ◌-◌, ◌∙◌, ℕ, ap, sym, subst, arith, length, map, get_or, inl, inr}
 use Rattle.std.proofs.lemmas.List.{length-map}
 use Rattle.std.proofs.lemmas.Option.{slice_get-get_or}
-use Rattle.mode_machine.specs.Chains.{IsNext, occurs}
-use Rattle.mode_machine.specs.Owed.{is_woken}
-use Rattle.mode_machine.specs.Tracked.{event_at, moment_in}
+use Rattle.mode_machine.specs.Common.{IsNext, occurs, is_woken, event_at, moment_in}
 use Rattle.mode_machine.proofs.Nexts.{end_of, passed}
 use Rattle.mode_machine.proofs.Told.{TellsBelow, all_told, only_next, tells_next, tells_past}
 use Rattle.mode_machine.proofs.Walking.{end_within, goes_less, goes_on, inside, next_of, passes_there}

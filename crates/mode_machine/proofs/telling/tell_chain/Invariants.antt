@@ -1,9 +1,7 @@
 use Rattle.std.proofs.Common.{◌≡◌, ◌≤◌, ◌+◌, ◌-◌, ℕ, length, map, true, Some}
 use Rattle.std.specs.List.{Contains}
 use Rattle.std.specs.Vec.{vec_capacity}
-use Rattle.mode_machine.specs.Chains.{occurs}
-use Rattle.mode_machine.specs.Owed.{is_woken}
-use Rattle.mode_machine.specs.Tracked.{event_at, moment_in}
+use Rattle.mode_machine.specs.Common.{occurs, is_woken, event_at, moment_in}
 use Rattle.mode_machine.proofs.Nexts.{end_of}
 use Rattle.mode_machine.proofs.Told.{TellsBelow, TellsOnly}
 use Rattle.mode_machine.proofs.telling.tell_chain.Given as goal

@@ -1,7 +1,6 @@
 use Rattle.std.proofs.Common.{◌<◌, ◌+◌, ◌-◌, ◌∙◌, ap, sym, subst, arith, length, map}
 use Rattle.std.proofs.lemmas.List.{length-map}
-use Rattle.mode_machine.specs.Chains.{IsNext, occurs}
-use Rattle.mode_machine.specs.Tracked.{moment_in}
+use Rattle.mode_machine.specs.Common.{IsNext, occurs, moment_in}
 use Rattle.mode_machine.proofs.Nexts.{end_of}
 use Rattle.mode_machine.proofs.Walking.{goes_less, goes_on, inside, next_of, none_left_yet, passes_there}
 use Rattle.mode_machine.proofs.tracked.left_from.Goals as goal

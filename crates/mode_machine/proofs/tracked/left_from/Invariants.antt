@@ -1,6 +1,5 @@
 use Rattle.std.proofs.Common.{◌≡◌, ◌≤◌, ◌<◌, ◌+◌, ◌-◌, ℕ, length, map, true, false, Some}
-use Rattle.mode_machine.specs.Chains.{occurs}
-use Rattle.mode_machine.specs.Tracked.{is_left, moment_in}
+use Rattle.mode_machine.specs.Common.{occurs, is_left, moment_in}
 use Rattle.mode_machine.proofs.Nexts.{end_of}
 use Rattle.mode_machine.proofs.tracked.left_from.Given as goal
 

@@ -1,8 +1,6 @@
 use Rattle.std.proofs.Common.{◌≡◌, ◌<◌, ◌+◌, ◌-◌, ◌∙◌, ap, sym, subst, arith, length, map}
 use Rattle.std.proofs.lemmas.List.{length-map}
-use Rattle.mode_machine.specs.Chains.{IsNext, occurs}
-use Rattle.mode_machine.specs.Owed.{owed_by}
-use Rattle.mode_machine.specs.Tracked.{if_at, moment_in}
+use Rattle.mode_machine.specs.Common.{IsNext, occurs, owed_by, if_at, moment_in}
 use Rattle.mode_machine.proofs.Each.{as_many_so_far, so_far}
 use Rattle.mode_machine.proofs.Nexts.{end_of}
 use Rattle.mode_machine.proofs.Walking.{goes_less, inside, next_of, passes_there, walk_begins, walk_goes}

@@ -1,7 +1,5 @@
 use Rattle.std.proofs.Common.{◌≡◌, ◌+◌, ◌-◌, ℕ, length, map, true, Some}
-use Rattle.mode_machine.specs.Chains.{occurs}
-use Rattle.mode_machine.specs.Owed.{owed_by}
-use Rattle.mode_machine.specs.Tracked.{if_at, moment_in}
+use Rattle.mode_machine.specs.Common.{occurs, owed_by, if_at, moment_in}
 use Rattle.mode_machine.proofs.Each.{so_far}
 use Rattle.mode_machine.proofs.Nexts.{end_of}
 use Rattle.mode_machine.proofs.tracked.owe_chain.Given as goal

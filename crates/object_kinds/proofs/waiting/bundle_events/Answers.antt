@@ -1,7 +1,6 @@
 use Rattle.std.proofs.Common.{◌∙◌, ◌+◌, arith}
 use Rattle.bus_semantics.specs.Plan.{plan_of, kind_of}
-use Rattle.object_kinds.specs.Gathered.{listed_at}
-use Rattle.object_kinds.specs.Layout.{waits_in_bundle}
+use Rattle.object_kinds.specs.Common.{listed_at, waits_in_bundle}
 use Rattle.object_kinds.proofs.Positions.{picked_more}
 use Rattle.object_kinds.proofs.waiting.bundle_events.Goals as goal
 

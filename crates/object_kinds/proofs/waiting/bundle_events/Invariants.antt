@@ -1,8 +1,7 @@
 use Rattle.std.proofs.Common.{◌≡◌, ℕ, length}
 use Rattle.std.specs.Prelude.{filter}
 use Rattle.bus_semantics.specs.Plan.{plan_of, kind_of, positions}
-use Rattle.object_kinds.specs.Layout.{waits_in_bundle}
-use Rattle.object_kinds.specs.Gathered.{listed_at}
+use Rattle.object_kinds.specs.Common.{waits_in_bundle, listed_at}
 use Rattle.object_kinds.proofs.waiting.bundle_events.Given as goal
 
 abbrev pub invariant-loop-event : goal.invariant-loop-event

@@ -1,11 +1,8 @@
 use Rattle.std.proofs.Common.{◌≡◌, ◌<◌, ◌≤◌, [], length, suc, take, refl, sym, ap, ◌∙◌, arith}
-use Rattle.std.specs.List.{slice_get}
-use Rattle.std.proofs.lemmas.Option.{get_or_from_slice_get}
+use Rattle.bus_semantics.specs.Common.{slice_get, get_or_from_slice_get, plan_of}
 use Rattle.bus_laws.proofs.Thinning.{there_is}
-use Rattle.bus_semantics.specs.Plan.{plan_of}
 use Rattle.signal_link.specs.Unframing.{Kept}
-use Rattle.pair_run.specs.Crossing.{Crosses, Drains}
-use Rattle.pair_run.specs.Linked.{links_of}
+use Rattle.pair_run.specs.Common.{Crosses, Drains, links_of}
 use Rattle.pair_run.proofs.Carrying.{none_done}
 use Rattle.pair_run.proofs.Faults.{after_then, link_then, sink_then}
 use Rattle.pair_run.proofs.Lines.{all_done, links_may, one_cut, one_more}

@@ -1,7 +1,5 @@
 use Rattle.std.proofs.Common.{◌≡◌, [], take}
-use Rattle.pair_run.specs.declared.pair.PairRun.TheVariants.{Finished}
-use Rattle.pair_run.specs.Crossing.{Crosses}
-use Rattle.pair_run.specs.Standing.{CarryBoth}
+use Rattle.pair_run.specs.Common.{Finished, Crosses, CarryBoth}
 use Rattle.pair_run.proofs.crossing.cross.Given as goal
 
 -- the links so far are drained

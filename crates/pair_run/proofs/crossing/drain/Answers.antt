@@ -1,21 +1,11 @@
 use Rattle.std.proofs.Common.{◌≡◌, ◌<◌, ◌+◌, true, refl, sym, ap, ◌∙◌, subst, arith}
-use Rattle.std.specs.List.{slice_get}
-use Rattle.std.proofs.lemmas.Option.{same_Some}
+use Rattle.bus_semantics.specs.Common.{slice_get, same_Some, words_of, wish_fits, plan_of, to_receive, to_send}
 use Rattle.rte_text.specs.declared.sink.Put.{Put}
 use Rattle.rte_text.specs.Sinks.{SinkFaultsAfter}
-use Rattle.rte_value.specs.Values.{words_of}
-use Rattle.bus_semantics.specs.declared.entries.Actor.TheVariants.{Env}
-use Rattle.bus_semantics.specs.declared.plan.BusPlan.{BusPlan}
-use Rattle.bus_semantics.specs.Fitting.{wish_fits}
-use Rattle.bus_semantics.specs.Plan.{plan_of}
-use Rattle.bus_semantics.specs.Wanted.{to_receive, to_send}
-use Rattle.pair_run.specs.Sent.{takes}
+use Rattle.bus_laws.specs.Common.{Env, BusPlan}
+use Rattle.pair_run.specs.Common.{takes, Failed, Finished, Drains, Passed, CarryBoth}
 use Rattle.signal_link.specs.declared.link_elem.LinkElem.{LinkElem}
-use Rattle.signal_link.specs.Links.{AreOfWords}
-use Rattle.signal_link.specs.Unframing.{IsGood, Kept}
-use Rattle.pair_run.specs.declared.pair.PairRun.TheVariants.{Failed, Finished}
-use Rattle.pair_run.specs.Crossing.{Drains, Passed}
-use Rattle.pair_run.specs.Standing.{CarryBoth}
+use Rattle.signal_link.specs.Common.{AreOfWords, IsGood, Kept}
 use Rattle.pair_run.proofs.Carrying.{none_done}
 use Rattle.pair_run.proofs.Draining.{none_was_held, one_passed, pass_stopped, receive_failed, too_many, value_taken}
 use Rattle.pair_run.proofs.Faults.{after_then, link_then, sink_then}

@@ -1,9 +1,7 @@
 use Rattle.std.proofs.Common.{◌≡◌, [], Some}
 use Rattle.std.specs.List.{slice_get}
 use Rattle.signal_link.specs.declared.link_elem.LinkElem.{LinkElem}
-use Rattle.pair_run.specs.declared.pair.PairRun.TheVariants.{Finished}
-use Rattle.pair_run.specs.Crossing.{Passed}
-use Rattle.pair_run.specs.Standing.{CarryBoth}
+use Rattle.pair_run.specs.Common.{Finished, Passed, CarryBoth}
 use Rattle.pair_run.proofs.crossing.drain.Given as goal
 
 -- as many values passed as were received

@@ -1,8 +1,7 @@
 use Rattle.std.proofs.Common.{◌≡◌, ◌≢◌, length, ap, arith}
 use Rattle.std.proofs.lemmas.Option.{slice_get_within}
 use Rattle.signal_link.specs.Unframing.{Kept}
-use Rattle.pair_run.specs.declared.pair.PairRun.TheVariants.{Finished, LinkFailed}
-use Rattle.pair_run.specs.Crossing.{Sends}
+use Rattle.pair_run.specs.Common.{Finished, LinkFailed, Sends}
 use Rattle.pair_run.proofs.Carrying.{stops_here}
 use Rattle.pair_run.proofs.Completing.{sends_may}
 use Rattle.pair_run.proofs.Draining.{sent_cut, sent_whole}

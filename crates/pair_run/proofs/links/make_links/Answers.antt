@@ -1,9 +1,7 @@
 use Rattle.std.proofs.Common.{◌≡◌, ◌<◌, ◌≤◌, ◌+◌, ◌++◌, true, length, get_or, drop, List, Option, sym, ap, ◌∙◌, subst, arith}
-use Rattle.std.specs.List.{list_all}
+use Rattle.bus_semantics.specs.Common.{list_all, plan_of}
 use Rattle.std.specs.Option.{option_to_list}
-use Rattle.bus_semantics.specs.declared.plan.BusPlan.{BusPlan}
-use Rattle.bus_semantics.specs.declared.plan.ElemPlan.{ElemPlan}
-use Rattle.bus_semantics.specs.Plan.{plan_of}
+use Rattle.bus_laws.specs.Common.{BusPlan, ElemPlan}
 use Rattle.script_reading.proofs.Numbered.{numbered}
 use Rattle.signal_link.specs.declared.link_elem.LinkElem.{LinkElem}
 use Rattle.signal_link.specs.Links.{AreOfWords, is_link}

@@ -1,7 +1,6 @@
 use Rattle.std.proofs.Common.{sym, subst}
 use Rattle.bus_semantics.specs.declared.script.Line.{Line}
-use Rattle.pair_run.specs.Crossing.{Makes}
-use Rattle.pair_run.specs.Standing.{CarryBoth}
+use Rattle.pair_run.specs.Common.{Makes, CarryBoth}
 use Rattle.pair_run.proofs.pair.put_line.Goals as goal
 
 pub returns-in-Tick-clause-carries : goal.returns-in-Tick-clause-carries

@@ -1,12 +1,8 @@
 use Rattle.std.proofs.Common.{[], suc, take, refl, sym, ◌∙◌, subst}
-use Rattle.bus_semantics.specs.declared.plan.BusPlan.{BusPlan}
-use Rattle.bus_semantics.specs.declared.script.Line.{Line}
+use Rattle.bus_laws.specs.Common.{BusPlan, Line}
 use Rattle.bus_semantics.specs.Plan.{plan_of}
 use Rattle.signal_link.specs.Unframing.{Kept}
-use Rattle.pair_run.specs.declared.pair.PairRun.TheVariants.{Finished}
-use Rattle.pair_run.specs.Crossing.{Follows, Makes}
-use Rattle.pair_run.specs.Running.{IsPairLine}
-use Rattle.pair_run.specs.Standing.{CarryBoth}
+use Rattle.pair_run.specs.Common.{Finished, Follows, Makes, IsPairLine, CarryBoth}
 use Rattle.pair_run.proofs.Carrying.{none_done}
 use Rattle.pair_run.proofs.Faults.{link_then, sink_then}
 use Rattle.pair_run.proofs.Lines.{all_done, lines_may, one_cut, one_more}

@@ -1,7 +1,5 @@
 use Rattle.std.proofs.Common.{◌≡◌, [], take}
-use Rattle.pair_run.specs.declared.pair.PairRun.TheVariants.{Finished}
-use Rattle.pair_run.specs.Crossing.{Follows}
-use Rattle.pair_run.specs.Standing.{CarryBoth}
+use Rattle.pair_run.specs.Common.{Finished, Follows, CarryBoth}
 use Rattle.pair_run.proofs.pair.put_lines.Given as goal
 
 -- the lines so far were carried out

@@ -1,10 +1,6 @@
 use Rattle.std.proofs.Common.{refl, sym, ◌∙◌, subst}
 use Rattle.bus_semantics.specs.declared.script.Line.TheVariants as script_line
-use Rattle.pair_run.specs.declared.pair.PairRun.{PairRun}
-use Rattle.pair_run.specs.Crossing.{Did, Makes}
-use Rattle.pair_run.specs.Joint.{one}
-use Rattle.pair_run.specs.Running.{SinkFaultsAfter}
-use Rattle.pair_run.specs.Standing.{CarryBoth}
+use Rattle.pair_run.specs.Common.{PairRun, Did, Makes, one, SinkFaultsAfter, CarryBoth}
 use Rattle.pair_run.proofs.Faults.{after_same, link_same, no_link_came, sink_came, sink_then}
 use Rattle.pair_run.proofs.Lines.{crossing_cut, run_cut, run_did, runs_both}
 use Rattle.pair_run.proofs.Stood.{stand_on}

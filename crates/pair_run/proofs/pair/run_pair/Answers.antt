@@ -1,16 +1,9 @@
 use Rattle.std.proofs.Common.{◌≡◌, true, List, sym, subst}
-use Rattle.std.specs.List.{All, list_all}
-use Rattle.bus_semantics.specs.declared.plan.BusPlan.{BusPlan}
-use Rattle.bus_semantics.specs.declared.script.Line.{Line}
-use Rattle.bus_semantics.specs.Plan.{plan_of}
-use Rattle.bus_semantics.specs.Sound.{IsSound}
+use Rattle.bus_semantics.specs.Common.{All, list_all, plan_of, IsSound}
+use Rattle.bus_laws.specs.Common.{BusPlan, Line}
 use Rattle.signal_link.specs.declared.link_elem.LinkElem.{LinkElem}
-use Rattle.signal_link.specs.Links.{is_link}
-use Rattle.signal_link.specs.Unframing.{Kept}
-use Rattle.pair_run.specs.declared.pair.PairRun.{PairRun}
-use Rattle.pair_run.specs.Crossing.{Follows}
-use Rattle.pair_run.specs.Running.{IsPairLine}
-use Rattle.pair_run.specs.Standing.{CarryBoth}
+use Rattle.signal_link.specs.Common.{is_link, Kept}
+use Rattle.pair_run.specs.Common.{PairRun, Follows, IsPairLine, CarryBoth}
 use Rattle.pair_run.proofs.Linking.{links_are_links}
 use Rattle.pair_run.proofs.Printed.{prints, prints_begun, prints_headers, stand_begun}
 use Rattle.pair_run.proofs.pair.run_pair.Goals as goal

@@ -1,9 +1,6 @@
 use Rattle.std.proofs.Common.{[], refl, sym, ◌∙◌, subst}
 use Rattle.bus_semantics.specs.declared.script.Line.TheVariants as script_line
-use Rattle.pair_run.specs.declared.pair.PairRun.{PairRun}
-use Rattle.pair_run.specs.Crossing.{Makes}
-use Rattle.pair_run.specs.Running.{SinkFaultsAfter}
-use Rattle.pair_run.specs.Standing.{CarryBoth}
+use Rattle.pair_run.specs.Common.{PairRun, Makes, SinkFaultsAfter, CarryBoth}
 use Rattle.pair_run.proofs.Faults.{no_link_came, sink_came}
 use Rattle.pair_run.proofs.Lines.{ticks_both, ticks_cut}
 use Rattle.pair_run.proofs.pair.tick_both.Goals as goal

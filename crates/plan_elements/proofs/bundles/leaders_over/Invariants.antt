@@ -1,7 +1,6 @@
 use Rattle.std.proofs.Common.{◌≡◌, drop, map}
 use Rattle.bus_semantics.specs.Bundles.{leaders_on}
-use Rattle.plan_definitions.specs.Elements.{elem_seen}
-use Rattle.plan_definitions.specs.Listed.{groups_listed}
+use Rattle.plan_definitions.specs.Common.{elem_seen, groups_listed}
 use Rattle.plan_elements.specs.Bundled.{leaders_over}
 use Rattle.plan_elements.proofs.bundles.leaders_over.Given as goal
 

@@ -1,8 +1,5 @@
 use Rattle.std.proofs.Common.{map, sym, ap, ◌∙◌}
-use Rattle.plan_definitions.specs.Elements.{group_of, leaders}
-use Rattle.plan_definitions.specs.ElementGroups.{group_number, leader_of}
-use Rattle.plan_definitions.specs.Keys.{keys_of}
-use Rattle.plan_definitions.specs.Things.{elements_of}
+use Rattle.plan_definitions.specs.Common.{group_of, leaders, group_number, leader_of, keys_of, elements_of}
 use Rattle.plan_elements.proofs.Leading.{grouped}
 use Rattle.plan_elements.specs.Ends.{joined_at}
 use Rattle.plan_elements.proofs.elements.element_plans.Goals as goal

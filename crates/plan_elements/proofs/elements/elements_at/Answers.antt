@@ -1,6 +1,5 @@
 use Rattle.std.proofs.Common.{None, ap, false, get_or, map}
-use Rattle.plan_definitions.specs.Elements.{elem_seen, element_of, group_of}
-use Rattle.plan_definitions.specs.Sites.{site}
+use Rattle.plan_definitions.specs.Common.{elem_seen, element_of, group_of, site}
 use Rattle.plan_definitions.specs.declared.site.Site.{Site}
 use Rattle.plan_definitions.specs.declared.site.SiteKind.TheVariants.{Element}
 use Rattle.plan_elements.proofs.Mapped.{mapped_all, mapped_at, mapped_more}

@@ -1,8 +1,6 @@
 use Rattle.std.proofs.Common.{ap, arith, length, subst, sym, ◌≡◌, ◌≤◌, ◌||◌, ◌∙◌}
-use Rattle.std.proofs.lemmas.List.{length-replicate}
-use Rattle.std.specs.List.{list_any}
-use Rattle.plan_definitions.specs.Keys.{keys_of}
-use Rattle.plan_definitions.specs.Things.{elements_of}
+use Rattle.bus_semantics.specs.Common.{length-replicate, list_any}
+use Rattle.plan_definitions.specs.Common.{keys_of, elements_of}
 use Rattle.plan_elements.specs.Ends.{has_at, mark_at}
 use Rattle.plan_elements.proofs.Joining.{they_join}
 use Rattle.plan_elements.proofs.Marking.{marks_more, none_marked, pairs_all, pairs_more}

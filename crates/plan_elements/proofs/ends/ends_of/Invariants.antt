@@ -1,7 +1,6 @@
 use Rattle.std.proofs.Common.{◌≡◌, ℕ, ◌<◌, ◌||◌, drop, length, take}
 use Rattle.std.specs.List.{list_any}
-use Rattle.plan_definitions.specs.Keys.{keys_of}
-use Rattle.plan_definitions.specs.Things.{elements_of}
+use Rattle.plan_definitions.specs.Common.{keys_of, elements_of}
 use Rattle.plan_elements.specs.Ends.{has_at, mark_at, pairs_of}
 use Rattle.plan_elements.proofs.ends.ends_of.Given as goal
 

@@ -1,6 +1,5 @@
 use Rattle.std.proofs.Common.{◌≡◌, ◌≤◌, ◌+◌, ◌++◌, drop, length}
-use Rattle.plan_definitions.specs.ElementGroups.{head_at, heads}
-use Rattle.plan_definitions.specs.Lists.{from}
+use Rattle.plan_definitions.specs.Common.{head_at, heads, from}
 use Rattle.plan_elements.specs.Lists.{ranks}
 use Rattle.plan_elements.proofs.groups.ranks_of.Given as goal
 

@@ -1,6 +1,5 @@
 use Rattle.std.proofs.Common.{◌≡◌, ◌++◌, drop}
-use Rattle.plan_definitions.specs.Listed.{lists_at}
-use Rattle.plan_definitions.specs.Lists.{from}
+use Rattle.plan_definitions.specs.Common.{lists_at, from}
 use Rattle.plan_elements.proofs.lists.list_plans.Given as goal
 
 abbrev pub invariant-loop-number : goal.invariant-loop-number

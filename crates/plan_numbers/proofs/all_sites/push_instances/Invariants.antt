@@ -1,6 +1,5 @@
 use Rattle.std.proofs.Common.{◌≡◌, ◌++◌, drop}
-use Rattle.plan_definitions.specs.Lists.{from}
-use Rattle.plan_definitions.specs.Sites.{sites_of_instance}
+use Rattle.plan_definitions.specs.Common.{from, sites_of_instance}
 use Rattle.plan_numbers.proofs.all_sites.push_instances.Given as goal
 
 abbrev pub invariant-loop-number : goal.invariant-loop-number

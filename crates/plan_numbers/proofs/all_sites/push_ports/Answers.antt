@@ -1,6 +1,5 @@
 use Rattle.std.proofs.Common.{◌+◌, ◌++◌, drop, sym, ap, ◌∙◌}
-use Rattle.plan_definitions.specs.Lists.{from}
-use Rattle.plan_definitions.specs.Sites.{sites_at}
+use Rattle.plan_definitions.specs.Common.{from, sites_at}
 use Rattle.plan_definitions.proofs.Turns.{from_more, from_none, nothing}
 use Rattle.plan_numbers.proofs.all_sites.push_ports.Goals as goal
 

@@ -1,6 +1,5 @@
 use Rattle.std.proofs.Common.{◌≡◌, ◌++◌, ◌-◌, map, Some}
-use Rattle.plan_definitions.specs.Lists.{positions}
-use Rattle.plan_definitions.specs.Sites.{site}
+use Rattle.plan_definitions.specs.Common.{positions, site}
 use Rattle.plan_numbers.proofs.all_sites.push_sites.Given as goal
 
 abbrev pub invariant-loop-item : goal.invariant-loop-item

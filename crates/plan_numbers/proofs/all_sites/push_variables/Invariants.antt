@@ -1,7 +1,6 @@
 use Rattle.std.proofs.Common.{◌≡◌, ◌++◌, ◌-◌, map, Some, None}
-use Rattle.plan_definitions.specs.Lists.{positions}
+use Rattle.plan_definitions.specs.Common.{positions, site}
 use Rattle.plan_definitions.specs.declared.site.SiteKind.TheVariants.{Variable}
-use Rattle.plan_definitions.specs.Sites.{site}
 use Rattle.plan_numbers.proofs.all_sites.push_variables.Given as goal
 
 abbrev pub invariant-loop-item : goal.invariant-loop-item

@@ -1,7 +1,5 @@
 use Rattle.std.proofs.Common.{ℕ, ◌+◌, ◌++◌, drop, sym, ap, ◌∙◌}
-use Rattle.description_types.specs.declared.flat.Instance.{Instance}
-use Rattle.plan_definitions.specs.Lists.{from}
-use Rattle.plan_definitions.specs.Parts.{counted_at, numbered}
+use Rattle.plan_definitions.specs.Common.{Instance, from, counted_at, numbered}
 use Rattle.plan_definitions.proofs.Turns.{from_more, from_none, nothing}
 use Rattle.plan_numbers.proofs.parts.parts_of.Goals as goal
 

@@ -1,6 +1,5 @@
 use Rattle.std.proofs.Common.{◌≡◌, ◌++◌, drop}
-use Rattle.plan_definitions.specs.Lists.{from}
-use Rattle.plan_definitions.specs.Parts.{counted_at, numbered}
+use Rattle.plan_definitions.specs.Common.{from, counted_at, numbered}
 use Rattle.plan_numbers.proofs.parts.parts_of.Given as goal
 
 abbrev pub invariant-loop-number : goal.invariant-loop-number

@@ -1,6 +1,5 @@
 use Rattle.std.proofs.Common.{◌≡◌, ◌++◌, ◌-◌, map}
-use Rattle.plan_definitions.specs.Lists.{positions}
-use Rattle.plan_definitions.specs.Callings.{outer_calling}
+use Rattle.plan_definitions.specs.Common.{positions, outer_calling}
 use Rattle.plan_services.proofs.callings.push_outer_calls.Given as goal
 
 abbrev pub invariant-loop-item : goal.invariant-loop-item

@@ -1,6 +1,5 @@
 use Rattle.std.proofs.Common.{◌≡◌, ◌++◌, drop}
-use Rattle.plan_definitions.specs.Lists.{from}
-use Rattle.plan_definitions.specs.Callings.{outer_callings}
+use Rattle.plan_definitions.specs.Common.{from, outer_callings}
 use Rattle.plan_services.proofs.callings.push_outer_ports.Given as goal
 
 abbrev pub invariant-loop-number : goal.invariant-loop-number

@@ -1,8 +1,6 @@
 use Rattle.std.proofs.Common.{◌≡◌, [], ◌++◌, drop}
-use Rattle.std.specs.List.{slice_get}
-use Rattle.std.specs.Option.{option_map_or}
-use Rattle.plan_definitions.specs.Lists.{from}
-use Rattle.plan_definitions.specs.Started.{events_of_component}
+use Rattle.bus_semantics.specs.Common.{slice_get, option_map_or}
+use Rattle.plan_definitions.specs.Common.{from, events_of_component}
 use Rattle.plan_services.proofs.events.push_instances.Given as goal
 
 abbrev pub invariant-loop-number : goal.invariant-loop-number

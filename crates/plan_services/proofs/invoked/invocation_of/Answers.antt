@@ -1,6 +1,5 @@
 use Rattle.std.proofs.Common.{Some, ap, ◌∙◌}
-use Rattle.std.specs.List.{position_from}
-use Rattle.std.specs.Option.{option_and_then, option_eq}
+use Rattle.bus_semantics.specs.Common.{position_from, option_and_then, option_eq}
 use Rattle.plan_definitions.specs.Keys.{same_pair}
 use Rattle.plan_services.proofs.Invoking.{invoked_found}
 use Rattle.plan_services.proofs.invoked.invocation_of.Goals as goal

@@ -1,6 +1,5 @@
 use Rattle.std.proofs.Common.{[]}
-use Rattle.std.specs.List.{slice_get}
-use Rattle.std.specs.Option.{option_map_or}
+use Rattle.bus_semantics.specs.Common.{slice_get, option_map_or}
 use Rattle.plan_definitions.specs.Started.{runnables_of_component}
 use Rattle.plan_definitions.proofs.Turns.{from_added, from_all}
 use Rattle.plan_services.proofs.runnables.push_instances.Goals as goal

@@ -1,10 +1,6 @@
 use Rattle.std.proofs.Common.{◌≡◌, [], ◌++◌, drop, map}
-use Rattle.std.specs.List.{slice_get}
-use Rattle.std.specs.Option.{option_map_or}
-use Rattle.plan_definitions.specs.Lists.{from}
-use Rattle.bus_semantics.specs.Plan.{runnable_of as seen}
-use Rattle.plan_definitions.specs.Started.{runnables_of_component}
-use Rattle.plan_definitions.specs.Coding.{AreCoded}
+use Rattle.bus_semantics.specs.Common.{slice_get, option_map_or, runnable_of as seen}
+use Rattle.plan_definitions.specs.Common.{from, runnables_of_component, AreCoded}
 use Rattle.plan_services.proofs.runnables.push_instances.Given as goal
 
 abbrev pub invariant-loop-number : goal.invariant-loop-number

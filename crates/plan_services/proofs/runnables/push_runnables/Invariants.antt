@@ -1,8 +1,6 @@
 use Rattle.std.proofs.Common.{◌≡◌, [], ◌∷◌, ◌++◌, drop, map}
-use Rattle.plan_definitions.specs.Lists.{from}
+use Rattle.plan_definitions.specs.Common.{from, runnable_of, AreCoded}
 use Rattle.bus_semantics.specs.Plan.{runnable_of as seen}
-use Rattle.plan_definitions.specs.Started.{runnable_of}
-use Rattle.plan_definitions.specs.Coding.{AreCoded}
 use Rattle.plan_services.proofs.runnables.push_runnables.Given as goal
 
 abbrev pub invariant-loop-number : goal.invariant-loop-number

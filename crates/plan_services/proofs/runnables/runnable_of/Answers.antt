@@ -1,8 +1,6 @@
 use Rattle.std.proofs.Common.{[], ◌∙◌, Some, ap, get_or, map, option_map, sym}
 use Rattle.runnable_lang.specs.Trees.{program_tree}
-use Rattle.plan_definitions.specs.Keys.{pair_number}
-use Rattle.plan_definitions.specs.Parts.{runnables_of}
-use Rattle.plan_definitions.specs.Started.{served_number, target_of}
+use Rattle.plan_definitions.specs.Common.{pair_number, runnables_of, served_number, target_of}
 use Rattle.plan_services.proofs.Serving.{served_found}
 use Rattle.plan_services.proofs.runnables.runnable_of.Goals as goal
 

@@ -1,7 +1,5 @@
 use Rattle.std.proofs.Common.{subst}
-use Rattle.bus_semantics.specs.Plan.{plan_of}
-use Rattle.bus_semantics.specs.Wanted.{wanted_of}
-use Rattle.bus_semantics.specs.Objects.{touched}
+use Rattle.bus_semantics.specs.Common.{plan_of, wanted_of, touched}
 use Rattle.port_objects.specs.Answers.{IsAnswer}
 use Rattle.port_objects.proofs.acting.act.Goals as goal
 

@@ -1,9 +1,6 @@
 use Rattle.std.proofs.Common.{refl, sym, ap, subst}
-use Rattle.std.proofs.lemmas.Bool.{false≢true}
+use Rattle.bus_semantics.specs.Common.{false≢true, plan_of, wanted_of, touched}
 use Rattle.object_kinds.specs.Kinds.{IsAnswerOf}
-use Rattle.bus_semantics.specs.Plan.{plan_of}
-use Rattle.bus_semantics.specs.Wanted.{wanted_of}
-use Rattle.bus_semantics.specs.Objects.{touched}
 use Rattle.data_objects.specs.Kept as groups
 use Rattle.data_objects.specs.Leading as group_leading
 use Rattle.data_objects.specs.Standing as group_standing
@@ -27,9 +24,7 @@ use Rattle.clock_objects.specs.Leading as clock_leading
 use Rattle.clock_objects.specs.Standing as clock_standing
 use Rattle.machine_objects.specs.Plans.{IsAskedOf}
 use Rattle.port_objects.specs.declared.object.Object.TheVariants.{Unqueued, Bundle, Queued, Server, Area, Machine, Clock}
-use Rattle.port_objects.specs.Kept.{of_group, of_bundle, of_queues, of_server, of_area, of_machine, of_clock}
-use Rattle.port_objects.specs.Objects.{IsOfPlan}
-use Rattle.port_objects.specs.Answers.{IsAnswer}
+use Rattle.port_objects.specs.Common.{of_group, of_bundle, of_queues, of_server, of_area, of_machine, of_clock, IsOfPlan, IsAnswer}
 use Rattle.port_objects.proofs.Rows.{group_row, bundle_row, queue_row, server_row, area_row, machine_row, clock_row}
 use Rattle.port_objects.proofs.Answering.{answered}
 use Rattle.port_objects.proofs.acting.act_by_kind.Goals as goal

@@ -1,9 +1,6 @@
 use Rattle.std.proofs.Common.{◌≡◌, sym, subst, Some}
-use Rattle.std.specs.List.{slice_get}
-use Rattle.bus_semantics.specs.Plan.{plan_of}
-use Rattle.bus_semantics.specs.Wanted.{wanted_of}
-use Rattle.port_objects.specs.Objects.{IsOfPlan}
-use Rattle.port_objects.specs.Answers.{IsAnswer}
+use Rattle.bus_semantics.specs.Common.{slice_get, plan_of, wanted_of}
+use Rattle.port_objects.specs.Common.{IsOfPlan, IsAnswer}
 use Rattle.port_objects.proofs.Benching.{touched_is, found_at, set_planned, acted_on}
 use Rattle.port_objects.proofs.among.act_among.Goals as goal
 

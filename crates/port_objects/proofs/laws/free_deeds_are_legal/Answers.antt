@@ -1,8 +1,6 @@
 use Rattle.std.proofs.Common.{◌≡◌, true, sym, subst, None}
 use Rattle.std.specs.Prelude.{unwrap_or}
-use Rattle.bus_semantics.specs.Asked.{event_of}
-use Rattle.bus_semantics.specs.Objects.{object_of}
-use Rattle.bus_semantics.specs.Legal.{calls_allow}
+use Rattle.bus_semantics.specs.Common.{event_of, object_of, calls_allow}
 use Rattle.port_objects.specs.Freed.{is_free}
 use Rattle.port_objects.proofs.Freeing.{one_free, free_answers}
 use Rattle.port_objects.proofs.laws.free_deeds_are_legal.Goals as goal

@@ -1,11 +1,6 @@
 use Rattle.std.proofs.Common.{◌≡◌, ◌∙◌, sym, ap, refl, ℕ, List, [], ◌∷◌, get_or, length, None}
 use Rattle.std.specs.Prelude.{nat_lt}
-use Rattle.std.specs.List.{slice_get}
-use Rattle.std.proofs.lemmas.Bool.{and_parts}
-use Rattle.std.proofs.lemmas.Option.{get_or_from_slice_get}
-use Rattle.bus_semantics.specs.Plan.{plan_of}
-use Rattle.bus_semantics.specs.Bundles.{groups_at}
-use Rattle.bus_semantics.specs.SoundPlan.{same_numbers}
+use Rattle.bus_semantics.specs.Common.{slice_get, and_parts, get_or_from_slice_get, plan_of, groups_at, same_numbers}
 use Rattle.bus_laws.proofs.Bundling.{bundle_lists, same_lists}
 use Rattle.object_kinds.proofs.Lists.{at_index}
 use Rattle.port_objects.proofs.making.group_at.Goals as goal

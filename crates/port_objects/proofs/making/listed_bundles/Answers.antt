@@ -1,8 +1,6 @@
 use Rattle.std.proofs.Common.{◌≡◌, ◌+◌, ◌∙◌, ap, sym, subst, arith, length, Some}
 use Rattle.std.specs.Prelude.{option_and_then}
-use Rattle.std.specs.List.{slice_get}
-use Rattle.bus_semantics.specs.Plan.{plan_of}
-use Rattle.bus_semantics.specs.Bundles.{bundle_of}
+use Rattle.bus_semantics.specs.Common.{slice_get, plan_of, bundle_of}
 use Rattle.object_kinds.proofs.Lists.{at_index}
 use Rattle.port_objects.proofs.Listing.{AreListed, as_long, list_more}
 use Rattle.port_objects.proofs.making.listed_bundles.Goals as goal

@@ -1,12 +1,7 @@
 use Rattle.std.proofs.Common.{◌≤◌, ◌+◌, ◌==◌, ◌&&◌, sym, ◌∙◌, subst, arith, []}
 use Rattle.std.specs.Prelude.{nat_le}
-use Rattle.std.proofs.lemmas.Bool.{and_parts, leb-true}
-use Rattle.bus_semantics.specs.Plan.{plan_of}
-use Rattle.bus_semantics.specs.Objects.{clock}
-use Rattle.bus_semantics.specs.SoundPlan.{things}
-use Rattle.port_objects.specs.Kept.{of_bundle}
-use Rattle.port_objects.specs.Plans.{IsOfKind}
-use Rattle.port_objects.specs.Standing.{Keeps}
+use Rattle.bus_semantics.specs.Common.{and_parts, leb-true, plan_of, clock, things}
+use Rattle.port_objects.specs.Common.{of_bundle, IsOfKind, Keeps}
 use Rattle.port_objects.proofs.making.make_bundle.Goals as goal
 
 pub new-requires-clause-few : goal.new-requires-clause-few

@@ -4,8 +4,7 @@ use Rattle.data_objects.specs.Kept as groups
 use Rattle.data_objects.specs.Layout.{IsUnqueuedGroup}
 use Rattle.queue_objects.specs.Kept as queues
 use Rattle.queue_objects.specs.Layout.{IsQueuedGroup}
-use Rattle.port_objects.specs.Kept.{of_group, of_queues}
-use Rattle.port_objects.specs.Standing.{Keeps}
+use Rattle.port_objects.specs.Common.{of_group, of_queues, Keeps}
 use Rattle.port_objects.proofs.OneGroup.{group_below, queues_open, queues_planned, group_opens, group_planned}
 use Rattle.port_objects.proofs.making.make_group.Goals as goal
 

@@ -1,6 +1,5 @@
 use Rattle.std.proofs.Common.{◌<◌, ◌∙◌, arith, length, sym}
-use Rattle.std.specs.List.{slice_get}
-use Rattle.bus_semantics.specs.Plan.{plan_of}
+use Rattle.bus_semantics.specs.Common.{slice_get, plan_of}
 use Rattle.port_objects.proofs.Listing.{touched_within}
 use Rattle.port_objects.proofs.making.mark_bundle.Goals as goal
 

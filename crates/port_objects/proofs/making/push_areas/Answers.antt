@@ -1,10 +1,8 @@
 use Rattle.std.proofs.Common.{◌+◌, ◌<◌, ap, length, arith}
-use Rattle.bus_semantics.specs.Plan.{plan_of}
-use Rattle.bus_semantics.specs.Objects.{first_area}
+use Rattle.bus_semantics.specs.Common.{plan_of, first_area}
 use Rattle.area_objects.specs.Kept as areas
 use Rattle.port_objects.specs.declared.object.Object.TheVariants.{Area}
-use Rattle.port_objects.specs.Kept.{of_area}
-use Rattle.port_objects.specs.Opening.{before_areas}
+use Rattle.port_objects.specs.Common.{of_area, before_areas}
 use Rattle.port_objects.proofs.Opened.{areas_from, row_more, this_area}
 use Rattle.port_objects.proofs.making.push_areas.Goals as goal
 

@@ -1,8 +1,7 @@
 use Rattle.std.proofs.Common.{◌++◌, map}
 use Rattle.bus_semantics.specs.Plan.{plan_of, positions}
 use Rattle.area_objects.specs.Kept as areas
-use Rattle.port_objects.specs.Kept.{of_area}
-use Rattle.port_objects.specs.Opening.{before_areas, AreFirst}
+use Rattle.port_objects.specs.Common.{of_area, before_areas, AreFirst}
 use Rattle.port_objects.proofs.making.push_areas.Given as goal
 
 abbrev pub invariant-loop-area : goal.invariant-loop-area

@@ -1,6 +1,5 @@
 use Rattle.std.proofs.Common.{◌≡◌, ◌<◌, ◌∙◌, ◌+◌, [], length, arith, ap, sym, Some}
-use Rattle.std.proofs.lemmas.Option.{slice_get-get_or}
-use Rattle.bus_semantics.specs.Plan.{plan_of}
+use Rattle.bus_semantics.specs.Common.{slice_get-get_or, plan_of}
 use Rattle.port_objects.specs.Opening.{opening_of_bundle}
 use Rattle.port_objects.proofs.Opened.{none_first, bundle_more, row_all}
 use Rattle.port_objects.proofs.making.push_bundles.Goals as goal

@@ -1,7 +1,6 @@
 use Rattle.std.proofs.Common.{◌≡◌, ◌≤◌, ℕ, length, map}
 use Rattle.bus_semantics.specs.Plan.{plan_of, positions}
-use Rattle.object_kinds.specs.Layout.{events_of, waits_in_bundle}
-use Rattle.object_kinds.specs.Gathered.{listed_at}
+use Rattle.object_kinds.specs.Common.{events_of, waits_in_bundle, listed_at}
 use Rattle.port_objects.specs.Opening.{opening_of_bundle, AreFirst}
 use Rattle.port_objects.proofs.making.push_bundles.Given as goal
 

@@ -1,9 +1,7 @@
 use Rattle.std.proofs.Common.{◌∙◌, ◌+◌, ◌<◌, ap, length, arith}
-use Rattle.bus_semantics.specs.Plan.{plan_of}
-use Rattle.bus_semantics.specs.Objects.{first_machine}
+use Rattle.bus_semantics.specs.Common.{plan_of, first_machine}
 use Rattle.port_objects.specs.declared.object.Object.TheVariants.{Machine}
-use Rattle.port_objects.specs.Kept.{of_machine}
-use Rattle.port_objects.specs.Opening.{before_machines, opening_of_machine}
+use Rattle.port_objects.specs.Common.{of_machine, before_machines, opening_of_machine}
 use Rattle.port_objects.proofs.Opened.{machines_from, row_more, first_stands}
 use Rattle.port_objects.proofs.making.push_machines.Goals as goal
 

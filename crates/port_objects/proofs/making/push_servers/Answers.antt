@@ -1,9 +1,7 @@
 use Rattle.std.proofs.Common.{◌∙◌, ◌+◌, ◌<◌, ap, length, arith}
-use Rattle.bus_semantics.specs.Plan.{plan_of}
-use Rattle.bus_semantics.specs.Objects.{first_server}
+use Rattle.bus_semantics.specs.Common.{plan_of, first_server}
 use Rattle.port_objects.specs.declared.object.Object.TheVariants.{Server}
-use Rattle.port_objects.specs.Kept.{of_server}
-use Rattle.port_objects.specs.Opening.{before_servers, opening_of_server}
+use Rattle.port_objects.specs.Common.{of_server, before_servers, opening_of_server}
 use Rattle.port_objects.proofs.Opened.{servers_from, row_more}
 use Rattle.port_objects.proofs.making.push_servers.Goals as goal
 

@@ -1,7 +1,6 @@
 use Rattle.std.proofs.Common.{◌≡◌, ◌≤◌, ◌++◌, ℕ, length, map}
 use Rattle.bus_semantics.specs.Plan.{plan_of, positions}
-use Rattle.object_kinds.specs.Layout.{events_of}
-use Rattle.object_kinds.specs.Gathered.{listed_at}
+use Rattle.object_kinds.specs.Common.{events_of, listed_at}
 use Rattle.server_objects.specs.Layout.{points_of, returns_for}
 use Rattle.port_objects.specs.Opening.{before_servers, opening_of_server, AreFirst}
 use Rattle.port_objects.proofs.making.push_servers.Given as goal

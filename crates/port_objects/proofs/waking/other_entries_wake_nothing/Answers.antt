@@ -1,8 +1,7 @@
 use Rattle.std.proofs.Common.{◌≡◌, ℕ, false, refl, Some}
 use Rattle.bus_semantics.specs.declared.entries.Deed.{Deed}
 use Rattle.bus_semantics.specs.declared.entries.Deed.TheVariants as deed
-use Rattle.bus_semantics.specs.Plan.{Plan}
-use Rattle.bus_semantics.specs.History.{Noted}
+use Rattle.bus_semantics.specs.Common.{Plan, Noted}
 use Rattle.data_objects.specs.Kept as groups
 use Rattle.data_objects.specs.Leading as group_leading
 use Rattle.data_objects.specs.Standing as group_standing
@@ -24,9 +23,7 @@ use Rattle.machine_objects.specs.Standing as machine_standing
 use Rattle.clock_objects.specs.Kept as clocks
 use Rattle.clock_objects.specs.Leading as clock_leading
 use Rattle.clock_objects.specs.Standing as clock_standing
-use Rattle.port_objects.specs.Kept.{Kept, of_group, of_bundle, of_queues, of_server, of_area, of_machine, of_clock}
-use Rattle.port_objects.specs.Leading.{lead}
-use Rattle.port_objects.specs.Waking.{may_start_in, wakes}
+use Rattle.port_objects.specs.Common.{Kept, of_group, of_bundle, of_queues, of_server, of_area, of_machine, of_clock, lead, may_start_in, wakes}
 use Rattle.port_objects.proofs.Rows.{group_row, bundle_row, queue_row, server_row, area_row, machine_row, clock_row, wakes_nothing_by}
 use Rattle.port_objects.proofs.waking.other_entries_wake_nothing.Goals as goal
 

@@ -1,7 +1,6 @@
 use Rattle.std.proofs.Common.{◌≡◌, ◌∙◌, ap}
 use Rattle.std.specs.Prelude.{filter}
-use Rattle.std.proofs.lemmas.List.{take_all}
-use Rattle.bus_semantics.specs.Plan.{plan_of}
+use Rattle.bus_semantics.specs.Common.{take_all, plan_of}
 use Rattle.object_kinds.specs.Layout.{members_of}
 use Rattle.object_kinds.proofs.Lists.{at_index}
 use Rattle.object_kinds.proofs.Members.{listed_members}

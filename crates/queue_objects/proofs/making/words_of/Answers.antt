@@ -1,7 +1,5 @@
 use Rattle.std.proofs.Common.{◌≡◌, ◌∙◌, ap}
-use Rattle.std.specs.List.{slice_get}
-use Rattle.std.specs.Option.{option_map_or}
-use Rattle.bus_semantics.specs.Plan.{plan_of}
+use Rattle.bus_semantics.specs.Common.{slice_get, option_map_or, plan_of}
 use Rattle.object_kinds.specs.Layout.{members_of}
 use Rattle.object_kinds.proofs.Lists.{at_index}
 use Rattle.object_kinds.proofs.Members.{listed_members}

@@ -1,8 +1,6 @@
 use Rattle.std.proofs.Common.{Option, ℕ, sym, ◌∙◌, subst}
 use Rattle.std.specs.Option.{IfSome}
-use Rattle.bus_semantics.specs.Objects.{IsObject}
-use Rattle.bus_semantics.specs.Plan.{Plan, plan_of}
-use Rattle.bus_semantics.specs.Wanted.{wanted_of}
+use Rattle.bus_semantics.specs.Common.{IsObject, Plan, plan_of, wanted_of}
 use Rattle.port_objects.specs.Benches.{IsAsked}
 use Rattle.row_texts.proofs.seats.ask_what_fits.Goals as goal
 

@@ -1,6 +1,5 @@
 use Rattle.std.proofs.Common.{◌≡◌, sym, ◌∙◌, ap, subst, map, Some}
-use Rattle.std.specs.List.{slice_get}
-use Rattle.bus_semantics.specs.Plan.{plan_of}
+use Rattle.bus_semantics.specs.Common.{slice_get, plan_of}
 use Rattle.task_slots.specs.Slots.{table_of}
 use Rattle.core_turn.specs.Cores.{tables_of_core}
 use Rattle.row_texts.proofs.turns.ready_core.Goals as goal

@@ -1,8 +1,7 @@
 use Rattle.std.proofs.Common.{All, List, subst, sym}
 use Rattle.bus_semantics.specs.Plan.{plan_of}
 use Rattle.signal_link.specs.declared.link_elem.LinkElem.{LinkElem}
-use Rattle.pair_run.specs.Linked.{links_of}
-use Rattle.pair_run.specs.Running.{IsPairLine}
+use Rattle.pair_run.specs.Common.{links_of, IsPairLine}
 use Rattle.rte_program.proofs.Paired as by
 use Rattle.rte_program.proofs.pair.run_nodes.Goals as goal
 

@@ -1,7 +1,6 @@
 use Rattle.std.proofs.Common.{◌-◌, ◌<◌, ◌^◌, subst, arith}
 use Rattle.bus_semantics.specs.Plan.{plan_of}
-use Rattle.script_reading.specs.Index.{IsNoted}
-use Rattle.script_reading.specs.Offers.{how_many}
+use Rattle.script_reading.specs.Common.{IsNoted, how_many}
 use Rattle.script_reading.proofs.Indexed.{few_numbered, noted}
 use Rattle.script_reading.proofs.environment.index_of.Goals as goal
 

@@ -1,7 +1,6 @@
 use Rattle.std.proofs.Common.{◌≡◌, ◌++◌, map, rules}
-use Rattle.script_reading.specs.Meaning.{asked_of}
+use Rattle.script_reading.specs.Common.{asked_of, asked_by}
 use Rattle.script_reading.specs.Pieces.{saying_of}
-use Rattle.script_reading.specs.Reading.{asked_by}
 use Rattle.script_reading.proofs.Steps.{has_read_next}
 use Rattle.script_reading.proofs.script_read.read_by.Goals as goal
 

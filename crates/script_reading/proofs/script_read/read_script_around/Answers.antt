@@ -1,7 +1,6 @@
 use Rattle.std.proofs.Common.{◌≡◌, [], Some, subst}
 use Rattle.bus_semantics.specs.Plan.{plan_of}
-use Rattle.script_reading.specs.Reading.{IfBadLine, first_bad}
-use Rattle.script_reading.specs.Reserved.{saying_around}
+use Rattle.script_reading.specs.Common.{IfBadLine, first_bad, saying_around}
 use Rattle.line_fields.specs.Texts.{lines_of}
 use Rattle.script_reading.proofs.Numbered.{numbered}
 use Rattle.script_reading.proofs.script_read.read_script_around.Goals as goal

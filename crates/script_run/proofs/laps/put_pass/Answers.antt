@@ -1,13 +1,9 @@
 use Rattle.std.proofs.Common.{◌≡◌, ◌++◌, ◌+◌, ◌-◌, ◌^◌, min, ◌==◌, true, [], ◌∷◌, List, length, refl, sym, ap, ◌∙◌, subst, arith}
-use Rattle.std.specs.List.{list_all}
-use Rattle.std.proofs.lemmas.Bool.{eqb-true}
+use Rattle.bus_semantics.specs.Common.{list_all, eqb-true, History, plan_of}
 use Rattle.rte_text.specs.Sinks.{ToldAfter}
 use Rattle.rte_text.specs.declared.sink.Put.TheVariants.{Done, Failed}
 use Rattle.bus_semantics.specs.declared.entries.Stamped.{Stamped}
-use Rattle.bus_semantics.specs.History.{History}
-use Rattle.bus_semantics.specs.Plan.{plan_of}
-use Rattle.core_runtime.specs.After.{after}
-use Rattle.core_runtime.specs.Nodes.{IsLawfulNode}
+use Rattle.core_runtime.specs.Common.{after, IsLawfulNode}
 use Rattle.script_run.specs.Sizes.{is_sized_stamped}
 use Rattle.script_run.specs.Standing.{LapCloses}
 use Rattle.script_run.specs.Texts.{entries_text}

@@ -1,8 +1,7 @@
 use Rattle.std.proofs.Common.{◌≡◌, ◌+◌, ◌-◌, ◌^◌, min, true, [], List, length, refl, ap, subst}
-use Rattle.std.specs.List.{list_all}
+use Rattle.bus_semantics.specs.Common.{list_all, plan_of}
 use Rattle.rte_text.specs.Sinks.{ToldAfter}
 use Rattle.bus_semantics.specs.declared.entries.Stamped.{Stamped}
-use Rattle.bus_semantics.specs.Plan.{plan_of}
 use Rattle.script_run.specs.declared.script.ScriptRun.TheVariants.{Memory}
 use Rattle.script_run.specs.Sizes.{is_sized_stamped}
 use Rattle.script_run.specs.Standing.{inside}

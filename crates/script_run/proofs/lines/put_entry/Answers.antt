@@ -1,6 +1,4 @@
-use Rattle.std.proofs.lemmas.Bool.{and_parts}
-use Rattle.bus_semantics.specs.Plan.{plan_of}
-use Rattle.bus_semantics.specs.SoundNames.{names_fit}
+use Rattle.bus_semantics.specs.Common.{and_parts, plan_of, names_fit}
 use Rattle.script_run.proofs.lines.put_entry.Goals as goal
 
 pub write_entry-requires-clause-names : goal.write_entry-requires-clause-names

@@ -1,6 +1,5 @@
 use Rattle.std.proofs.Common.{ap}
-use Rattle.bus_semantics.specs.Plan.{plan_of}
-use Rattle.bus_semantics.specs.Wanted.{wanted_of}
+use Rattle.bus_semantics.specs.Common.{plan_of, wanted_of}
 use Rattle.script_run.proofs.Sessions as by
 use Rattle.script_run.proofs.script.make_call.Goals as goal
 

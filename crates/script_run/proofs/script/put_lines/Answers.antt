@@ -1,7 +1,6 @@
 use Rattle.std.proofs.Common.{List, ◌++◌, suc, take, drop, subst, ◌∙◌}
-use Rattle.std.proofs.lemmas.List.{take_all}
+use Rattle.bus_semantics.specs.Common.{take_all, orders_of_line, orders_of_script}
 use Rattle.bus_semantics.specs.declared.script.Line.{Line}
-use Rattle.bus_semantics.specs.Run.{orders_of_line, orders_of_script}
 use Rattle.script_run.specs.declared.script.ScriptRun.TheVariants.{Finished, Failed, Memory}
 use Rattle.script_run.specs.Standing.{Carries, outside}
 use Rattle.script_run.proofs.Sessions as by

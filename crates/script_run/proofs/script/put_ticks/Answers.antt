@@ -1,7 +1,6 @@
 use Rattle.std.proofs.Common.{◌≡◌, ◌+◌, ◌-◌, [], ◌∷◌, ◌++◌, suc, replicate, subst, ◌∙◌, arith}
 use Rattle.std.proofs.lemmas.List.{replicate-append-replicate}
-use Rattle.bus_semantics.specs.Run.{a_call}
-use Rattle.bus_semantics.specs.Wanted.{to_tick}
+use Rattle.bus_semantics.specs.Common.{a_call, to_tick}
 use Rattle.script_run.specs.declared.script.ScriptRun.TheVariants.{Finished, Failed, Memory}
 use Rattle.script_run.specs.Standing.{Carries, outside}
 use Rattle.script_run.proofs.Sessions as by

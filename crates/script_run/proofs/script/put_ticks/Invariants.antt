@@ -1,6 +1,5 @@
 use Rattle.std.proofs.Common.{◌≡◌, replicate}
-use Rattle.bus_semantics.specs.Run.{a_call}
-use Rattle.bus_semantics.specs.Wanted.{to_tick}
+use Rattle.bus_semantics.specs.Common.{a_call, to_tick}
 use Rattle.script_run.specs.declared.script.ScriptRun.TheVariants.{Finished}
 use Rattle.script_run.specs.Standing.{Carries, outside}
 use Rattle.script_run.proofs.script.put_ticks.Given as goal

@@ -1,7 +1,6 @@
 use Rattle.std.proofs.Common.{[], ◌∷◌, subst}
 use Rattle.bus_semantics.specs.declared.script.Line.TheVariants as line
-use Rattle.bus_semantics.specs.Plan.{plan_of}
-use Rattle.bus_semantics.specs.Sound.{IsSound}
+use Rattle.bus_semantics.specs.Common.{plan_of, IsSound}
 use Rattle.script_run.proofs.Sessions as by
 use Rattle.script_run.proofs.script.run_line.Goals as goal
 

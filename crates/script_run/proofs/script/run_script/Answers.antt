@@ -1,9 +1,7 @@
 use Rattle.std.proofs.Common.{List, subst}
 use Rattle.rte_text.specs.Sinks.{AppendsWhereTold}
 use Rattle.bus_semantics.specs.declared.script.Line.{Line}
-use Rattle.bus_semantics.specs.Plan.{plan_of}
-use Rattle.bus_semantics.specs.Sound.{IsSound}
-use Rattle.bus_semantics.specs.Run.{orders_of_script}
+use Rattle.bus_semantics.specs.Common.{plan_of, IsSound, orders_of_script}
 use Rattle.script_run.specs.Standing.{Carries, outside}
 use Rattle.script_run.proofs.Sessions as by
 use Rattle.script_run.proofs.script.run_script.Goals as goal

@@ -1,6 +1,5 @@
 use Rattle.std.proofs.Common.{◌≡◌, true, take, ◌∙◌, subst}
-use Rattle.std.specs.List.{list_all}
-use Rattle.std.proofs.lemmas.Bool.{and_from}
+use Rattle.bus_semantics.specs.Common.{list_all, and_from}
 use Rattle.std.proofs.lemmas.List.Folds.{list_all_more}
 use Rattle.bus_semantics.specs.declared.entries.Stamped.{Stamped}
 use Rattle.script_run.specs.Sizes.{is_sized_stamped}

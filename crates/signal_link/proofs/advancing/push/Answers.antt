@@ -1,8 +1,6 @@
 use Rattle.std.proofs.Common.{◌++◌, ◌∷◌, ℕ, List, [], Bool, Option, sym, ap, ◌∙◌, subst, arith}
 use Rattle.std.specs.Option.{unwrap_or}
-use Rattle.signal_link.specs.declared.part.Part.{Part}
-use Rattle.signal_link.specs.Parts.{IsPart, IsPushed, begun_of}
-use Rattle.signal_link.specs.Unframing.{IsBeginning}
+use Rattle.signal_link.specs.Common.{Part, IsPart, IsPushed, begun_of, IsBeginning}
 use Rattle.signal_link.proofs.Payloads.{no_good_frame}
 use Rattle.signal_link.proofs.advancing.push.Goals as goal
 

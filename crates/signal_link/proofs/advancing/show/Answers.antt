@@ -1,6 +1,5 @@
 use Rattle.std.proofs.Common.{refl, sym, ◌∙◌, subst}
-use Rattle.signal_link.specs.declared.part.Part.{Part}
-use Rattle.signal_link.specs.Parts.{IsNext}
+use Rattle.signal_link.specs.Common.{Part, IsNext}
 use Rattle.signal_link.proofs.Payloads.{whole_frame}
 use Rattle.signal_link.proofs.advancing.show.Goals as goal
 

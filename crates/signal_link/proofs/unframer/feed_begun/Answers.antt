@@ -1,10 +1,7 @@
 use Rattle.std.proofs.Common.{◌≡◌, ◌+◌, ◌++◌, ℕ, List, [], Option, Some, None, length, take, sym, ap, ◌∙◌, subst}
 use Rattle.std.proofs.lemmas.List.{take_all}
 use Rattle.std.specs.Option.{option_map}
-use Rattle.signal_link.specs.declared.part.Part.{Part}
-use Rattle.signal_link.specs.declared.unframer.Found.TheVariants.{Whole, More, BadFrame}
-use Rattle.signal_link.specs.Feeding.{IsFed}
-use Rattle.signal_link.specs.Parts.{IsPart, begun_of, kept_of}
+use Rattle.signal_link.specs.Common.{Part, Whole, More, BadFrame, IsFed, IsPart, begun_of, kept_of}
 use Rattle.signal_link.proofs.Beginnings.{kept_is_cut}
 use Rattle.signal_link.proofs.Feeds.{fed_as, fed_bad, fed_more, fed_whole, kept_as, next_byte, some_of}
 use Rattle.signal_link.proofs.unframer.feed_begun.Goals as goal

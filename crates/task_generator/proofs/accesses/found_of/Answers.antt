@@ -1,9 +1,6 @@
 use Rattle.std.proofs.Common.{◌≡◌, suc, List, get_or, ◌-◌, ◌<◌, length, drop, arith, sym, ap, ◌∙◌}
-use Rattle.std.specs.Map.{lookup}
-use Rattle.rte_value.specs.declared.kinds.Limits.{Limits}
+use Rattle.bus_semantics.specs.Common.{lookup, Limits, kind_number, Access, is_to, found}
 use Rattle.indexmap.specs.IndexMap.{get}
-use Rattle.runnable_lang.specs.Accesses.{kind_number}
-use Rattle.bus_semantics.specs.State.{Access, is_to, found}
 use Rattle.task_generator.specs.Found.{same_key, access_in}
 use Rattle.task_generator.proofs.Finding.{none_behind, noted}
 use Rattle.task_generator.proofs.accesses.found_of.Goals as goal

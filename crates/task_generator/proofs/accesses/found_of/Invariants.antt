@@ -1,8 +1,6 @@
 use Rattle.std.proofs.Common.{◌≡◌, ℕ, ◌≤◌, drop, length}
 use Rattle.indexmap.specs.IndexMap.{get}
-use Rattle.runnable_lang.specs.declared.program.AccessKind.{AccessKind}
-use Rattle.runnable_lang.specs.Accesses.{kind_number}
-use Rattle.bus_semantics.specs.State.{is_to, found}
+use Rattle.bus_semantics.specs.Common.{AccessKind, kind_number, is_to, found}
 use Rattle.task_generator.specs.Found.{same_key, access_in}
 use Rattle.task_generator.proofs.accesses.found_of.Given as goal
 

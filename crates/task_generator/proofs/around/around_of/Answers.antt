@@ -1,13 +1,10 @@
 use Rattle.std.proofs.Common.{◌≡◌, List, ◌++◌, ap, map, ◌∙◌}
-use Rattle.std.specs.Option.{option_copied}
+use Rattle.bus_semantics.specs.Common.{option_copied, plan_of, runnable_of, fetches_of, publications_of}
 use Rattle.bus_semantics.specs.declared.plan.ServerPlan.{ServerPlan}
-use Rattle.bus_semantics.specs.Plan.{plan_of, runnable_of}
-use Rattle.bus_semantics.specs.Activations.{fetches_of, publications_of}
 use Rattle.implicit_buffers.specs.Fetchings.{implicits_of}
-use Rattle.task_generator.specs.Servers.{served}
+use Rattle.task_generator.specs.Common.{served, fetching_code, publishing_code, returning_code, ending_code, fixed}
 use Rattle.task_machine.specs.Instructions.{instruction_of}
-use Rattle.task_generator.specs.Code.{admitting_code, fetching_code, publishing_code, returning_code, ending_code}
-use Rattle.task_generator.specs.Shared.{fixed}
+use Rattle.task_generator.specs.Code.{admitting_code}
 use Rattle.task_generator.proofs.Publications.{around_put}
 use Rattle.task_generator.proofs.around.around_of.Goals as goal
 

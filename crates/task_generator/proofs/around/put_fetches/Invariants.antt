@@ -2,8 +2,7 @@ use Rattle.std.proofs.Common.{◌≡◌, ◌++◌, map, drop}
 use Rattle.bus_semantics.specs.Plan.{plan_of}
 use Rattle.implicit_buffers.specs.Fetchings.{implicits_of}
 use Rattle.task_machine.specs.Instructions.{instruction_of}
-use Rattle.task_generator.specs.Code.{fetching_code}
-use Rattle.task_generator.specs.Shared.{fixed}
+use Rattle.task_generator.specs.Common.{fetching_code, fixed}
 use Rattle.task_generator.proofs.around.put_fetches.Given as goal
 
 abbrev pub invariant-loop-fetch : goal.invariant-loop-fetch

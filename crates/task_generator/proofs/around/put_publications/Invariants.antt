@@ -2,8 +2,7 @@ use Rattle.std.proofs.Common.{◌≡◌, ◌++◌, map, drop}
 use Rattle.bus_semantics.specs.Plan.{plan_of}
 use Rattle.implicit_buffers.specs.Fetchings.{implicits_of}
 use Rattle.task_machine.specs.Instructions.{instruction_of}
-use Rattle.task_generator.specs.Code.{publishing_code}
-use Rattle.task_generator.specs.Shared.{fixed}
+use Rattle.task_generator.specs.Common.{publishing_code, fixed}
 use Rattle.task_generator.proofs.around.put_publications.Given as goal
 
 abbrev pub invariant-loop-publication : goal.invariant-loop-publication

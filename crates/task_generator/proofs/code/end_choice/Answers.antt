@@ -1,6 +1,5 @@
 use Rattle.std.proofs.Common.{◌≡◌, ◌+◌, ◌-◌, length, map, set, sym, ap, ◌∙◌}
-use Rattle.std.proofs.lemmas.List.{length-map}
-use Rattle.runnable_lang.specs.Trees.{expr_tree}
+use Rattle.bus_semantics.specs.Common.{length-map, expr_tree}
 use Rattle.task_machine.specs.Instructions.{instruction_of, unless, skip}
 use Rattle.task_generator.specs.Shared.{fixed}
 use Rattle.task_generator.proofs.Patching.{choice_patched, first_is}

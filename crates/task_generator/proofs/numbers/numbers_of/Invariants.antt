@@ -1,6 +1,5 @@
 use Rattle.std.proofs.Common.{◌≡◌, ◌≤◌, ◌+◌, ◌++◌, drop}
-use Rattle.task_generator.specs.Numbers.{numbers_from, numbers}
-use Rattle.task_generator.specs.Counts.{count_of}
+use Rattle.task_generator.specs.Common.{numbers_from, numbers, count_of}
 use Rattle.task_generator.proofs.numbers.numbers_of.Given as goal
 
 abbrev pub invariant-loop-access : goal.invariant-loop-access

@@ -1,12 +1,8 @@
 use Rattle.std.proofs.Common.{◌≡◌, ℕ, ◌+◌, List, [], ◌∷◌, ◌++◌, map, take, length, Some, None, refl, sym, ap, ◌∙◌, subst, arith, length-append}
-use Rattle.std.specs.Arc.{arc_value}
-use Rattle.std.specs.Map.{lookup}
+use Rattle.bus_semantics.specs.Common.{arc_value, lookup, slice_get-get_or, HaveOneCode, coded_of, plan_of, runnable_of}
 use Rattle.std.specs.Prelude.{slice_get}
-use Rattle.std.proofs.lemmas.Option.{slice_get-get_or}
 use Rattle.indexmap.specs.IndexMap.{get}
 use Rattle.bus_semantics.specs.declared.plan.RunnablePlan.{RunnablePlan}
-use Rattle.bus_semantics.specs.Codes.{HaveOneCode, coded_of}
-use Rattle.bus_semantics.specs.Plan.{plan_of, runnable_of}
 use Rattle.task_machine.specs.declared.instr.Body.{Body}
 use Rattle.task_generator.specs.Coded.{HaveCodes, coded_shape, code_of_body, shape_of_code, same_code}
 use Rattle.task_generator.specs.Shapes.{shape_of_body, shape_of}

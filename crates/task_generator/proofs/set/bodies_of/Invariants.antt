@@ -1,7 +1,6 @@
 use Rattle.std.proofs.Common.{◌≡◌, length, map, take}
 use Rattle.bus_semantics.specs.declared.plan.RunnablePlan.{RunnablePlan}
-use Rattle.bus_semantics.specs.Codes.{HaveOneCode}
-use Rattle.bus_semantics.specs.Plan.{plan_of, runnable_of}
+use Rattle.bus_semantics.specs.Common.{HaveOneCode, plan_of, runnable_of}
 use Rattle.task_generator.specs.Coded.{AreMade, HaveCodes}
 use Rattle.task_generator.specs.Shapes.{shape_of_body, shape_of}
 use Rattle.task_generator.proofs.set.bodies_of.Given as goal

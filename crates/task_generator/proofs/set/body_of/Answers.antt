@@ -1,17 +1,10 @@
 use Rattle.std.proofs.Common.{◌≡◌, ℕ, ◌+◌, ◌++◌, List, length, map, take, drop, max, ap, ◌∙◌, arith}
-use Rattle.std.specs.Arc.{arc_value}
-use Rattle.runnable_lang.specs.declared.program.Program.{Program}
-use Rattle.bus_semantics.specs.Plan.{plan_of, runnable_of}
-use Rattle.bus_semantics.specs.Activations.{fetches_of, publications_of}
+use Rattle.bus_semantics.specs.Common.{arc_value, Program, plan_of, runnable_of, fetches_of, publications_of}
 use Rattle.implicit_buffers.specs.Buffers.{fetched_by, published_by}
 use Rattle.task_machine.specs.declared.instr.Code.{Code}
 use Rattle.task_machine.specs.Instructions.{instruction_of, resolved}
-use Rattle.task_generator.specs.Servers.{served, arguments_in, in_places}
-use Rattle.task_generator.specs.Bounds.{steps_of_body, loops_of_body}
-use Rattle.task_generator.specs.Shared.{fixed, before_code, after_code}
+use Rattle.task_generator.specs.Common.{served, arguments_in, in_places, steps_of_body, loops_of_body, fixed, before_code, after_code, activity_code, budget_of}
 use Rattle.task_generator.specs.Coded.{CodeShape}
-use Rattle.task_generator.specs.Code.{activity_code}
-use Rattle.task_generator.specs.Shapes.{budget_of}
 use Rattle.task_generator.proofs.Few.{body_steps}
 use Rattle.task_generator.proofs.Whole.{whole_code, around_long}
 use Rattle.task_generator.proofs.set.body_of.Goals as goal

@@ -1,13 +1,7 @@
 use Rattle.std.proofs.Common.{◌≡◌, ◌≤◌, ◌++◌, length, map, ap, ◌∙◌, sym, arith}
-use Rattle.std.proofs.lemmas.List.{length-map}
-use Rattle.std.specs.Arc.{arc_value}
-use Rattle.runnable_lang.specs.declared.program.AccessSig.{AccessSig}
-use Rattle.runnable_lang.specs.declared.program.Program.{Program}
-use Rattle.runnable_lang.specs.declared.program.Signature.{Signature}
-use Rattle.runnable_lang.specs.Trees.{body_tree}
+use Rattle.bus_semantics.specs.Common.{length-map, arc_value, AccessSig, Program, Signature, body_tree}
 use Rattle.task_machine.specs.Instructions.{instruction_of}
-use Rattle.task_generator.specs.Bounds.{steps_of_body, loops_of_body}
-use Rattle.task_generator.specs.Shared.{shared_of_body}
+use Rattle.task_generator.specs.Common.{steps_of_body, loops_of_body, shared_of_body}
 use Rattle.task_generator.proofs.Few.{body_loops, body_steps, body_code}
 use Rattle.task_generator.proofs.shared.code_of.Goals as goal
 

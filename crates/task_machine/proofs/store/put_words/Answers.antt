@@ -1,6 +1,5 @@
 use Rattle.std.proofs.Common.{◌≡◌, ℕ, ℤ, List, [], ◌∷◌, ◌⊎◌, inl, inr, refl, sym, ◌∙◌}
-use Rattle.std.proofs.lemmas.Slice.Zip.{either_empty_from_Zip}
-use Rattle.bus_semantics.specs.State.{stored}
+use Rattle.bus_semantics.specs.Common.{either_empty_from_Zip, stored}
 use Rattle.task_machine.proofs.store.put_words.Goals as goal
 
 -- nothing is left of the numbers or of the words

@@ -1,6 +1,5 @@
 use Rattle.std.proofs.Common.{◌≡◌}
-use Rattle.std.specs.Vec.{vec_capacity}
-use Rattle.bus_semantics.specs.State.{stored}
+use Rattle.bus_semantics.specs.Common.{vec_capacity, stored}
 use Rattle.task_machine.proofs.store.put_words.Given as goal
 
 abbrev pub invariant-loop-number : goal.invariant-loop-number

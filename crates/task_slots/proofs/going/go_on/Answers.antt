@@ -1,18 +1,10 @@
 use Rattle.std.proofs.Common.{◌≡◌, false, sym, ◌∙◌, ap, subst, Some, ◌<◌, length}
-use Rattle.std.proofs.lemmas.Option.{same_Some}
-use Rattle.rte_value.specs.Values.{words_of}
+use Rattle.bus_semantics.specs.Common.{same_Some, words_of, plan_of, wanted_of, object_of, is_start}
 use Rattle.bus_semantics.specs.declared.entries.Actor.TheVariants.{Act}
 use Rattle.bus_semantics.specs.declared.entries.Deed.TheVariants as deed
-use Rattle.bus_semantics.specs.Plan.{plan_of}
-use Rattle.bus_semantics.specs.Wanted.{wanted_of}
-use Rattle.bus_semantics.specs.Objects.{object_of}
-use Rattle.bus_semantics.specs.Asked.{is_start}
 use Rattle.port_objects.specs.Benches.{written_last}
-use Rattle.task_slots.specs.Ready.{IsRunning, IsActive}
-use Rattle.task_slots.specs.Slots.{tries_of, looks_of}
+use Rattle.task_slots.specs.Common.{IsRunning, IsActive, tries_of, looks_of, IsTried, IsEntryOf, EntryOf, SlotLooked}
 use Rattle.task_slots.specs.declared.slot.Slot.TheVariants as slots
-use Rattle.task_slots.specs.Looking.{IsTried, IsEntryOf, EntryOf}
-use Rattle.task_slots.specs.Stepping.{SlotLooked}
 use Rattle.task_slots.proofs.Written.{look_as, some_written}
 use Rattle.task_slots.proofs.Wishes.{once}
 use Rattle.task_slots.proofs.Begun.{asks_is, asked_is, looked_next}

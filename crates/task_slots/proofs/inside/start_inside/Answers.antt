@@ -1,13 +1,9 @@
 use Rattle.std.proofs.Common.{sym, ◌∙◌, ap, subst, ◌<◌, length}
 use Rattle.bus_semantics.specs.declared.entries.Actor.TheVariants.{Act}
-use Rattle.bus_semantics.specs.Plan.{plan_of}
-use Rattle.bus_semantics.specs.Wanted.{to_start}
+use Rattle.bus_semantics.specs.Common.{plan_of, to_start}
 use Rattle.port_objects.specs.Benches.{written_last}
-use Rattle.task_slots.specs.Ready.{IsRunning, IsCalled, IsActive}
-use Rattle.task_slots.specs.Slots.{tries_of, looks_of}
+use Rattle.task_slots.specs.Common.{IsRunning, IsCalled, IsActive, tries_of, looks_of, EntryOf, SlotLooked}
 use Rattle.task_slots.specs.declared.slot.Slot.TheVariants as slots
-use Rattle.task_slots.specs.Looking.{EntryOf}
-use Rattle.task_slots.specs.Stepping.{SlotLooked}
 use Rattle.task_slots.proofs.Written.{look_as, some_written}
 use Rattle.task_slots.proofs.Calling.{direct_tried, direct_looked}
 use Rattle.task_slots.proofs.Steps.{serve_step}

@@ -1,8 +1,7 @@
 use Rattle.std.proofs.Common.{sym, subst}
 use Rattle.bus_semantics.specs.Plan.{plan_of}
 use Rattle.task_slots.specs.declared.slot.Slot.TheVariants as slots
-use Rattle.task_slots.specs.Look.{look_of}
-use Rattle.task_slots.specs.Stepping.{SlotLooked}
+use Rattle.task_slots.specs.Common.{look_of, SlotLooked}
 use Rattle.task_slots.proofs.looking.look_at.Goals as goal
 
 pub returns-in-Machine-clause-slot : goal.returns-in-Machine-clause-slot

@@ -1,11 +1,8 @@
 use Rattle.std.proofs.Common.{◌≡◌, true, sym, subst, ◌<◌, ◌∙◌, ap, length}
-use Rattle.std.specs.List.{list_all}
-use Rattle.bus_semantics.specs.Plan.{plan_of}
+use Rattle.bus_semantics.specs.Common.{list_all, plan_of}
 use Rattle.port_objects.specs.Benches.{written_last}
-use Rattle.task_slots.specs.Ready.{may_be_mapped}
+use Rattle.task_slots.specs.Common.{may_be_mapped, IsStartBy, StartBy, SlotLooked}
 use Rattle.task_slots.specs.declared.slot.Slot.TheVariants as slots
-use Rattle.task_slots.specs.Looking.{IsStartBy, StartBy}
-use Rattle.task_slots.specs.Stepping.{SlotLooked}
 use Rattle.task_slots.proofs.Written.{look_as, some_written}
 use Rattle.task_slots.proofs.Steps.{begun_step}
 use Rattle.task_slots.proofs.starting.start_due.Goals as goal

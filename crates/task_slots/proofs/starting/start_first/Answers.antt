@@ -1,12 +1,7 @@
 use Rattle.std.proofs.Common.{◌≡◌, ◌+◌, if◌then◌else◌, length, get_or, sym, ◌∙◌, ap, subst, arith}
-use Rattle.std.proofs.Math.Seq.{take-length}
-use Rattle.std.proofs.lemmas.Option.{slice_get-get_or}
-use Rattle.bus_semantics.specs.Plan.{plan_of}
-use Rattle.bus_semantics.specs.Rest.{gathered, start_try}
-use Rattle.task_slots.specs.Look.{Nothing}
-use Rattle.task_slots.specs.Slots.{waits}
-use Rattle.task_slots.specs.Looking.{Looked}
-use Rattle.task_slots.specs.Waiting.{sum_below, event_looks, row_looks}
+use Rattle.bus_semantics.specs.Common.{take-length, slice_get-get_or, plan_of, gathered, start_try}
+use Rattle.task_slots.specs.Common.{Nothing, waits, Looked, sum_below, event_looks}
+use Rattle.task_slots.specs.Waiting.{row_looks}
 use Rattle.task_slots.proofs.Counted.{sum_none, sum_next, asleep_looks, awake_looks}
 use Rattle.task_slots.proofs.Onward.{looked_as}
 use Rattle.task_slots.proofs.Starts.{event_tried, event_made, event_lost}

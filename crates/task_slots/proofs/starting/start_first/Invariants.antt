@@ -1,10 +1,6 @@
 use Rattle.std.proofs.Common.{◌≡◌, ◌-◌, ◌≤◌, ℕ, length, take}
-use Rattle.std.specs.Vec.{vec_capacity}
-use Rattle.bus_semantics.specs.Plan.{plan_of}
-use Rattle.bus_semantics.specs.Rest.{gathered, start_try}
-use Rattle.task_slots.specs.Look.{Nothing}
-use Rattle.task_slots.specs.Looking.{Looked}
-use Rattle.task_slots.specs.Waiting.{EventsHeld, sum_below, event_looks}
+use Rattle.bus_semantics.specs.Common.{vec_capacity, plan_of, gathered, start_try}
+use Rattle.task_slots.specs.Common.{Nothing, Looked, EventsHeld, sum_below, event_looks}
 use Rattle.task_slots.proofs.starting.start_first.Given as goal
 
 abbrev pub invariant-loop-at : goal.invariant-loop-at

@@ -1,6 +1,5 @@
-use Rattle.std.proofs.lemmas.Bool.{and_parts}
+use Rattle.bus_semantics.specs.Common.{and_parts, plan_of}
 use Rattle.std.proofs.Common.{length, nat_lt}
-use Rattle.bus_semantics.specs.Plan.{plan_of}
 use Rattle.task_slots.specs.Look.{look_of}
 use Rattle.task_slots.proofs.Starts.{start_tried, start_by, start_looked}
 use Rattle.task_slots.proofs.starting.try_event.Goals as goal

@@ -1,12 +1,9 @@
 use Rattle.std.proofs.Common.{◌≡◌, sym, ◌∙◌, ap, subst, Some, None, ◌∷◌, []}
-use Rattle.bus_semantics.specs.Plan.{plan_of}
-use Rattle.bus_semantics.specs.Wanted.{wanted_of}
-use Rattle.bus_semantics.specs.Objects.{object_of}
+use Rattle.bus_semantics.specs.Common.{plan_of, wanted_of, object_of}
 use Rattle.port_objects.specs.declared.bench.Answered.TheVariants as answered
 use Rattle.port_objects.specs.declared.bench.Benched.TheVariants.{NotYet, Contended}
 use Rattle.port_objects.specs.Benches.{IsActed, benched, written_last}
-use Rattle.task_slots.specs.Look.{look_of}
-use Rattle.task_slots.specs.Looking.{IsTried, EntryOf, looks_at, Looked}
+use Rattle.task_slots.specs.Common.{look_of, IsTried, EntryOf, looks_at, Looked}
 use Rattle.task_slots.proofs.Tries.{asked_on, made_entry, made_looked, held_looked, lost_looked}
 use Rattle.task_slots.proofs.trying.try_wish.Goals as goal
 

@@ -1,11 +1,8 @@
 use Rattle.std.proofs.Common.{◌≡◌, refl, sym, ◌∙◌, ap, subst, Some}
 use Rattle.std.specs.Prelude.{IfSome}
-use Rattle.std.proofs.lemmas.Option.{same_Some}
-use Rattle.rte_value.specs.Values.{words_of}
+use Rattle.bus_semantics.specs.Common.{same_Some, words_of, plan_of, to_enter, wanted_of}
 use Rattle.bus_semantics.specs.declared.entries.Actor.TheVariants.{Act}
 use Rattle.bus_semantics.specs.declared.entries.Deed.TheVariants as deed
-use Rattle.bus_semantics.specs.Plan.{plan_of}
-use Rattle.bus_semantics.specs.Wanted.{to_enter, wanted_of}
 use Rattle.task_slots.specs.Looking.{IsTried}
 use Rattle.task_slots.specs.Waiting.{AsksAt}
 use Rattle.task_slots.proofs.Begun.{asks_is, asked_is}

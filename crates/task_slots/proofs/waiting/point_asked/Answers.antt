@@ -1,10 +1,7 @@
 use Rattle.std.proofs.Common.{◌≡◌, sym, ◌∙◌, ap, subst, Some}
-use Rattle.std.proofs.lemmas.Option.{same_Some}
-use Rattle.rte_value.specs.Values.{words_of}
+use Rattle.bus_semantics.specs.Common.{same_Some, words_of, plan_of, to_hear, wanted_of}
 use Rattle.bus_semantics.specs.declared.entries.Actor.TheVariants.{Act}
 use Rattle.bus_semantics.specs.declared.entries.Deed.TheVariants as deed
-use Rattle.bus_semantics.specs.Plan.{plan_of}
-use Rattle.bus_semantics.specs.Wanted.{to_hear, wanted_of}
 use Rattle.task_slots.specs.Looking.{IsTried}
 use Rattle.task_slots.proofs.Begun.{asks_is, asked_is}
 use Rattle.task_slots.proofs.waiting.point_asked.Goals as goal

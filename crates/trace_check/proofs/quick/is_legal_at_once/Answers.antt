@@ -1,8 +1,7 @@
 use Rattle.std.proofs.Common.{◌≡◌, [], ◌++◌, refl, sym, ◌∙◌, subst, length}
-use Rattle.std.proofs.lemmas.Bool.{eqb-true}
+use Rattle.bus_semantics.specs.Common.{eqb-true, header}
 use Rattle.std.proofs.lemmas.List.{nil_from_length}
 use Rattle.std.proofs.lemmas.Option.{MatchOption-at_some}
-use Rattle.bus_semantics.specs.Spelling.{header}
 use Rattle.trace_check.specs.Along.{plan_in}
 use Rattle.trace_check.proofs.Reaching.{ends_whole, reached_first}
 use Rattle.trace_check.proofs.AtOnce.{IsAt, less_left, next_at}

@@ -1,7 +1,5 @@
 use Rattle.std.proofs.Common.{◌≡◌, true, false, sym, ap, ◌∙◌, subst, rules}
-use Rattle.bus_semantics.specs.History.{is_environment}
-use Rattle.bus_semantics.specs.Run.{a_call}
-use Rattle.bus_semantics.specs.Wanted.{Wanted}
+use Rattle.bus_semantics.specs.Common.{is_environment, a_call, Wanted}
 use Rattle.trace_check.specs.Orders.{Takes}
 use Rattle.trace_check.proofs.Taking.{call_judged}
 use Rattle.trace_check.proofs.script.takes_entry.Goals as goal

@@ -1,9 +1,7 @@
 use Rattle.std.proofs.Common.{◌≡◌, [], ◌++◌, length, refl, sym, ◌∙◌, subst, arith}
-use Rattle.std.proofs.lemmas.Bool.{eqb-true}
+use Rattle.bus_semantics.specs.Common.{eqb-true, plan_of, Letters, header}
 use Rattle.std.proofs.lemmas.List.{nil_from_length}
 use Rattle.bus_semantics.specs.declared.plan.BusPlan.{BusPlan}
-use Rattle.bus_semantics.specs.Plan.{plan_of}
-use Rattle.bus_semantics.specs.Spelling.{Letters, header}
 use Rattle.trace_reading.specs.Reads.{Reads}
 use Rattle.trace_check.specs.Along.{plan_in}
 use Rattle.trace_check.specs.Checking.{JudgesRead}

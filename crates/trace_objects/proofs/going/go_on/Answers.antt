@@ -1,8 +1,7 @@
 use Rattle.std.proofs.Common.{arith, sym, subst, Option}
 use Rattle.std.specs.Prelude.{IfSome}
 use Rattle.bus_semantics.specs.declared.entries.Entry.{Entry}
-use Rattle.bus_semantics.specs.Plan.{plan_of}
-use Rattle.bus_semantics.specs.Wanted.{wanted_of}
+use Rattle.bus_semantics.specs.Common.{plan_of, wanted_of}
 use Rattle.trace_objects.specs.Going.{IsAlone, MakesNext}
 use Rattle.trace_objects.proofs.NextEntries.{fit_so, own_so, next_alone, next_at}
 use Rattle.trace_objects.proofs.Reached.{there, at, found, planned, may_ask, plans_after}

@@ -1,11 +1,6 @@
 use Rattle.std.proofs.Common.{◌≡◌, refl, sym, subst, Some}
-use Rattle.std.proofs.lemmas.Option.{same_Some}
-use Rattle.bus_semantics.specs.Plan.{plan_of}
-use Rattle.bus_semantics.specs.Wanted.{wanted_of}
-use Rattle.bus_semantics.specs.Asked.{noted_for}
-use Rattle.port_objects.specs.Coming.{IsTheOne}
-use Rattle.port_objects.specs.Leading.{lead}
-use Rattle.port_objects.specs.Objects.{kept_of}
+use Rattle.bus_semantics.specs.Common.{same_Some, plan_of, wanted_of, noted_for}
+use Rattle.port_objects.specs.Common.{IsTheOne, lead, kept_of}
 use Rattle.trace_objects.specs.Unrest.{IsLed}
 use Rattle.trace_objects.proofs.Noting.{among_still}
 use Rattle.trace_objects.proofs.going.go_on_at.Goals as goal

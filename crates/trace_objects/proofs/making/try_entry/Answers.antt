@@ -1,7 +1,5 @@
 use Rattle.std.proofs.Common.{arith, sym}
-use Rattle.bus_semantics.specs.Plan.{plan_of}
-use Rattle.bus_semantics.specs.Wanted.{wanted_of}
-use Rattle.bus_semantics.specs.History.{noted}
+use Rattle.bus_semantics.specs.Common.{plan_of, wanted_of, noted}
 use Rattle.trace_objects.proofs.Alone.{FreeLaws, returned_alone}
 use Rattle.trace_objects.proofs.Broken.{StartLaws}
 use Rattle.trace_objects.proofs.Reached.{there, at, found, planned, may_ask, plans_after}

@@ -1,8 +1,5 @@
 use Rattle.std.proofs.Common.{arith, refl, sym, subst, ◌∷◌}
-use Rattle.bus_semantics.specs.Plan.{plan_of}
-use Rattle.bus_semantics.specs.Wanted.{wanted_of}
-use Rattle.bus_semantics.specs.Objects.{entries_of}
-use Rattle.bus_semantics.specs.Asked.{noted_for, MayCome}
+use Rattle.bus_semantics.specs.Common.{plan_of, wanted_of, entries_of, noted_for, MayCome}
 use Rattle.trace_objects.proofs.Noting.{held_back}
 use Rattle.trace_objects.proofs.Pausing.{may_follow, stuck_there, stuck_alone}
 use Rattle.trace_objects.proofs.Reached.{there, at, found, planned, may_ask, plans_after}

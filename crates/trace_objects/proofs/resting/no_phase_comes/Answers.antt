@@ -1,8 +1,5 @@
 use Rattle.std.proofs.Common.{◌≡◌, ◌+◌, ◌<◌, arith, false, refl, sym, ◌∙◌, ap, subst, length, set, Some}
-use Rattle.std.specs.List.{slice_get}
-use Rattle.std.proofs.lemmas.List.{length-set}
-use Rattle.bus_semantics.specs.Objects.{first_machine}
-use Rattle.bus_semantics.specs.Plan.{plan_of}
+use Rattle.bus_semantics.specs.Common.{slice_get, length-set, first_machine, plan_of}
 use Rattle.no_stall.proofs.Tried.{machine_stuck}
 use Rattle.place_set.specs.Places.{NoneBetween}
 use Rattle.trace_objects.specs.Resting.{IsPaused}

@@ -1,6 +1,5 @@
 use Rattle.std.proofs.Common.{◌≡◌, ◌+◌, true, false, refl, sym, ◌∙◌, ap, subst, length, set}
-use Rattle.std.proofs.lemmas.List.{length-set}
-use Rattle.bus_semantics.specs.Plan.{plan_of}
+use Rattle.bus_semantics.specs.Common.{length-set, plan_of}
 use Rattle.place_set.specs.Places.{NoneBetween}
 use Rattle.trace_objects.specs.Resting.{IsPaused}
 use Rattle.trace_objects.specs.Unrest.{is_mapped, StartHeld, StartsAmong}

@@ -1,7 +1,6 @@
 use Rattle.std.proofs.Common.{◌≡◌, sym, refl, Some}
-use Rattle.bus_semantics.specs.Plan.{plan_of, runnable_of_event}
+use Rattle.bus_semantics.specs.Common.{plan_of, runnable_of_event, plain_key}
 use Rattle.bus_laws.proofs.Thinning.{option_test}
-use Rattle.bus_semantics.specs.Rest.{plain_key}
 use Rattle.trace_objects.proofs.Mapped.{own_key}
 use Rattle.trace_objects.proofs.Pausing.{start_fits, start_begins, started}
 use Rattle.trace_objects.proofs.resting.start_comes.Goals as goal

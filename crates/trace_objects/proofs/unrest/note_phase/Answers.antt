@@ -1,6 +1,5 @@
 use Rattle.std.proofs.Common.{◌≡◌, ◌<◌, true, false, refl, ◌∙◌, subst, arith, length, get_or}
-use Rattle.std.proofs.lemmas.Option.{same_Some}
-use Rattle.bus_semantics.specs.Plan.{plan_of}
+use Rattle.bus_semantics.specs.Common.{same_Some, plan_of}
 use Rattle.trace_objects.proofs.Noting.{phases_noted}
 use Rattle.trace_objects.proofs.Sets.{with_length, with_kept, with_it}
 use Rattle.trace_objects.proofs.unrest.note_phase.Goals as goal

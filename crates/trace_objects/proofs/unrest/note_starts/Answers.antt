@@ -1,7 +1,6 @@
 use Rattle.std.proofs.Common.{Contains, sym, ◌∙◌, ap, subst}
 use Rattle.bus_semantics.specs.Plan.{plan_of}
-use Rattle.port_objects.specs.Objects.{kept_of}
-use Rattle.port_objects.specs.Waking.{wakes}
+use Rattle.port_objects.specs.Common.{kept_of, wakes}
 use Rattle.trace_objects.proofs.Noting.{starts_quiet, starts_told}
 use Rattle.trace_objects.proofs.unrest.note_starts.Goals as goal
 

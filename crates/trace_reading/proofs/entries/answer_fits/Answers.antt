@@ -1,7 +1,6 @@
 use Rattle.std.proofs.Common.{◌≡◌, sym, subst}
 use Rattle.bus_semantics.specs.declared.entries.Deed.{Deed}
-use Rattle.bus_semantics.specs.Fitting.{answer_fits}
-use Rattle.bus_semantics.specs.Plan.{plan_of}
+use Rattle.bus_semantics.specs.Common.{answer_fits, plan_of}
 use Rattle.trace_reading.proofs.entries.answer_fits.Goals as goal
 
 pub returns-in-Mode : goal.returns-in-Mode

@@ -1,6 +1,5 @@
 use Rattle.std.proofs.Common.{◌≡◌, ◌+◌, ◌*◌, ◌≤◌, drop, arith}
-use Rattle.bus_semantics.specs.Lists.{marked, words_of_all}
-use Rattle.bus_semantics.specs.Plan.{plan_of}
+use Rattle.bus_semantics.specs.Common.{marked, words_of_all, plan_of}
 use Rattle.trace_reading.proofs.Marks.{words_by_next}
 use Rattle.trace_reading.proofs.list_owners.words_of_marked.Goals as goal
 

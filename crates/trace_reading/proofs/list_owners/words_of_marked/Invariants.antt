@@ -1,6 +1,5 @@
 use Rattle.std.proofs.Common.{◌≡◌, ◌+◌, ◌*◌, ◌≤◌, drop}
-use Rattle.bus_semantics.specs.Lists.{marked, words_of_all}
-use Rattle.bus_semantics.specs.Plan.{plan_of}
+use Rattle.bus_semantics.specs.Common.{marked, words_of_all, plan_of}
 use Rattle.trace_reading.proofs.list_owners.words_of_marked.Given as goal
 
 -- with those of the elements to come the words are those of all; each mark stands for at most 255 words

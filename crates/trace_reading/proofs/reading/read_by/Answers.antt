@@ -1,8 +1,5 @@
 use Rattle.std.proofs.Common.{refl, sym, ◌∙◌}
-use Rattle.std.proofs.lemmas.Slice.Eq.{bytes_eq-Decides}
-use Rattle.bus_semantics.specs.Plan.{plan_of}
-use Rattle.bus_semantics.specs.Run.{idle, run_begins, unsettled}
-use Rattle.bus_semantics.specs.Spelling.{closing_text, item_text}
+use Rattle.bus_semantics.specs.Common.{bytes_eq-Decides, plan_of, idle, run_begins, unsettled, closing_text, item_text}
 use Rattle.trace_reading.proofs.Judging.{differ, no_item}
 use Rattle.trace_reading.proofs.reading.read_by.Goals as goal
 

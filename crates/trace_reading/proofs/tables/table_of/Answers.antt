@@ -1,6 +1,5 @@
 use Rattle.std.proofs.Common.{◌≡◌, ◌-◌, ap, ◌∙◌, drop, arith}
-use Rattle.std.specs.List.{position_from}
-use Rattle.bus_semantics.specs.Plan.{plan_of}
+use Rattle.bus_semantics.specs.Common.{position_from, plan_of}
 use Rattle.trace_reading.specs.Tables.{goes_by, labels}
 use Rattle.trace_reading.proofs.Indexing.{all_noted, noted}
 use Rattle.trace_reading.proofs.tables.table_of.Goals as goal

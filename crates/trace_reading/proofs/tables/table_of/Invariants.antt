@@ -1,7 +1,6 @@
 use Rattle.std.proofs.Common.{◌≡◌, ◌≤◌, drop, length}
-use Rattle.std.specs.List.{position_from}
+use Rattle.bus_semantics.specs.Common.{position_from, plan_of}
 use Rattle.indexmap.specs.IndexMap.{get}
-use Rattle.bus_semantics.specs.Plan.{plan_of}
 use Rattle.trace_reading.specs.Tables.{Key, goes_by, labels, same_key}
 use Rattle.trace_reading.proofs.tables.table_of.Given as goal
 

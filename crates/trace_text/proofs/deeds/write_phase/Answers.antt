@@ -1,7 +1,5 @@
 use Rattle.std.proofs.Common.{◌++◌, codes, ℕ, Option, sym, subst}
-use Rattle.rte_value.specs.declared.kinds.Step.{Step}
-use Rattle.bus_semantics.specs.Plan.{plan_of}
-use Rattle.bus_semantics.specs.Spelling.{mode_text, phase_text, spaced}
+use Rattle.bus_semantics.specs.Common.{Step, plan_of, mode_text, phase_text, spaced}
 use Rattle.trace_text.specs.Appending.{Appends}
 use Rattle.trace_text.proofs.Appending.{appends_both}
 use Rattle.trace_text.proofs.deeds.write_phase.Goals as goal

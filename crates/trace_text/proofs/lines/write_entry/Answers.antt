@@ -1,6 +1,5 @@
 use Rattle.std.proofs.Common.{◌++◌, length, ap, ◌∙◌, arith}
-use Rattle.bus_semantics.specs.Plan.{plan_of}
-use Rattle.bus_semantics.specs.Spelling.{entry_text}
+use Rattle.bus_semantics.specs.Common.{plan_of, entry_text}
 use Rattle.trace_text.proofs.ShortLines.{entry_short}
 use Rattle.trace_text.proofs.lines.write_entry.Goals as goal
 

@@ -1,8 +1,5 @@
 use Rattle.std.proofs.Common.{◌≡◌, refl, ◌<◌, length, set, sym, ◌∙◌, ap, subst, arith, Some}
-use Rattle.std.specs.List.{slice_get}
-use Rattle.std.proofs.lemmas.List.{length-map}
-use Rattle.bus_semantics.specs.Plan.{plan_of}
-use Rattle.bus_semantics.specs.Wanted.{wanted_of}
+use Rattle.bus_semantics.specs.Common.{slice_get, length-map, plan_of, wanted_of}
 use Rattle.object_kinds.proofs.Lists.{mapped_at}
 use Rattle.data_objects.specs.Kept.{GroupState}
 use Rattle.bundle_objects.specs.Acting.{IsPartActed}

@@ -1,8 +1,6 @@
 use Rattle.std.proofs.Common.{◌≡◌, ◌<◌, length, sym, ◌∙◌, ap, subst, Some}
 use Rattle.std.specs.Prelude.{IfSome}
-use Rattle.std.specs.List.{slice_get}
-use Rattle.bus_semantics.specs.Plan.{plan_of}
-use Rattle.bus_semantics.specs.Wanted.{wanted_of}
+use Rattle.bus_semantics.specs.Common.{slice_get, plan_of, wanted_of}
 use Rattle.bundle_objects.proofs.Acting.{seen_at}
 use Rattle.bundle_objects.proofs.bundle.Bundle.act_by_elem.Goals as goal
 

@@ -1,7 +1,5 @@
 use Rattle.std.proofs.Common.{◌≡◌, refl, sym, ap, subst}
-use Rattle.bus_semantics.specs.Plan.{plan_of}
-use Rattle.bus_semantics.specs.Wanted.{to_start, wanted_of}
-use Rattle.bus_semantics.specs.Objects.{touched}
+use Rattle.bus_semantics.specs.Common.{plan_of, to_start, wanted_of, touched}
 use Rattle.bundle_objects.specs.Acting.{Answered}
 use Rattle.bundle_objects.specs.Kept.{route}
 use Rattle.bundle_objects.specs.Leading.{part_of}

@@ -1,8 +1,6 @@
 use Rattle.std.proofs.Common.{◌≡◌, ◌<◌, length, sym, ◌∙◌, ap, subst, arith, false, Some}
 use Rattle.std.specs.Prelude.{IfSome, option_and_then}
-use Rattle.std.specs.List.{slice_get}
-use Rattle.std.specs.Option.{option_map_or}
-use Rattle.std.proofs.lemmas.List.{length-map}
+use Rattle.bus_semantics.specs.Common.{slice_get, option_map_or, length-map}
 use Rattle.object_kinds.proofs.Lists.{mapped_at}
 use Rattle.data_objects.specs.Kept as groups
 use Rattle.bundle_objects.specs.Kept.{BundleState}

@@ -1,8 +1,5 @@
 use Rattle.std.proofs.Common.{◌≡◌, ◌⊎◌, ◌<◌, ◌≤◌, ◌+◌, length, get_or, take, sym, ◌∙◌, ap, subst, arith, inl, inr, [], Some}
-use Rattle.std.specs.Option.{option_map_or}
-use Rattle.std.proofs.lemmas.Bool.{cases_lt, false≢true}
-use Rattle.rte_value.specs.Values.{words_of}
-use Rattle.bus_semantics.specs.Plan.{plan_of}
+use Rattle.bus_semantics.specs.Common.{option_map_or, cases_lt, false≢true, words_of, plan_of}
 use Rattle.bundle_objects.specs.Leading.{moment_in, value_kept}
 use Rattle.bundle_objects.proofs.Marking.{moment_more}
 use Rattle.bundle_objects.proofs.bundle.Bundle.moment.Goals as goal

@@ -1,12 +1,7 @@
 use Rattle.std.proofs.Common.{◌≡◌, ◌<◌, ◌≤◌, ℕ, length, map, sym, ◌∙◌, ap, subst, arith, true, Some}
 use Rattle.std.specs.Prelude.{sum_by, nat_lt, filter, ◌==◌}
-use Rattle.std.specs.List.{list_all, slice_get}
-use Rattle.std.specs.Vec.{vec_capacity}
-use Rattle.std.proofs.lemmas.List.{length-map}
-use Rattle.bus_semantics.specs.Plan.{plan_of}
-use Rattle.bus_semantics.specs.Bundles.{groups_at}
-use Rattle.object_kinds.specs.Layout.{events_of, waits_in_bundle}
-use Rattle.object_kinds.specs.Rising.{is_rising}
+use Rattle.bus_semantics.specs.Common.{list_all, slice_get, vec_capacity, length-map, plan_of, groups_at}
+use Rattle.object_kinds.specs.Common.{events_of, waits_in_bundle, is_rising}
 use Rattle.object_kinds.proofs.Events.{events_rise}
 use Rattle.data_objects.specs.Kept as groups
 use Rattle.data_objects.specs.Kept.{GroupState}

@@ -1,7 +1,5 @@
 use Rattle.std.proofs.Common.{◌≡◌, ◌≤◌, true, false, length, take, min, sym, ◌∙◌, ap, subst, arith, Some}
-use Rattle.std.proofs.lemmas.Bool.{false≢true}
-use Rattle.bus_semantics.specs.Plan.{plan_of}
-use Rattle.bus_semantics.specs.Lists.{words_at}
+use Rattle.bus_semantics.specs.Common.{false≢true, plan_of, words_at}
 use Rattle.bundle_objects.specs.Kept.{BundleState}
 use Rattle.bundle_objects.specs.Leading.{store}
 use Rattle.bundle_objects.specs.Words.{value_of}

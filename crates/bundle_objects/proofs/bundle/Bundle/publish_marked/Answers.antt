@@ -1,8 +1,5 @@
 use Rattle.std.proofs.Common.{◌≡◌, ◌<◌, ◌≤◌, ◌+◌, ◌%◌, ◌/◌, ◌==◌, true, false, length, drop, take, get_or, sym, ◌∙◌, ap, subst, arith}
-use Rattle.std.proofs.lemmas.Bool.{eq-eqb, ne_eqb}
-use Rattle.std.proofs.lemmas.List.{length-drop}
-use Rattle.bus_semantics.specs.Plan.{plan_of}
-use Rattle.bus_semantics.specs.Lists.{words_at, marked, split}
+use Rattle.bus_semantics.specs.Common.{eq-eqb, ne_eqb, length-drop, plan_of, words_at, marked, split}
 use Rattle.bundle_objects.specs.Acting.{Adds}
 use Rattle.bundle_objects.specs.Kept.{BundleState, clear_in}
 use Rattle.bundle_objects.specs.Leading.{part_of, store, publish}

@@ -1,6 +1,5 @@
 use Rattle.std.proofs.Common.{◌≡◌, ◌≤◌, ◌+◌, ℕ, length, drop}
-use Rattle.bus_semantics.specs.Plan.{plan_of}
-use Rattle.bus_semantics.specs.Lists.{marked, split}
+use Rattle.bus_semantics.specs.Common.{plan_of, marked, split}
 use Rattle.bundle_objects.specs.Acting.{Adds}
 use Rattle.bundle_objects.specs.Kept.{clear_in}
 use Rattle.bundle_objects.specs.Leading.{publish}

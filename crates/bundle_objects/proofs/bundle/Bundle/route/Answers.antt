@@ -1,7 +1,6 @@
 use Rattle.std.proofs.Common.{◌≡◌, ◌<◌, length, sym, ◌∙◌, ap, subst, arith, Some}
 use Rattle.std.specs.Prelude.{option_and_then}
-use Rattle.std.specs.List.{slice_get}
-use Rattle.std.proofs.lemmas.List.{length-map}
+use Rattle.bus_semantics.specs.Common.{slice_get, length-map}
 use Rattle.object_kinds.specs.Layout.{place}
 use Rattle.object_kinds.proofs.Placing.{place_within}
 use Rattle.bundle_objects.specs.Kept.{BundleState, route}

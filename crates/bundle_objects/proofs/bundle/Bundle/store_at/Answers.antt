@@ -1,7 +1,6 @@
 use Rattle.std.proofs.Common.{◌≡◌, refl, ◌<◌, ◌≤◌, ◌+◌, not, count_by, length, set, sym, ◌∙◌, ap, subst, arith, Some}
 use Rattle.std.specs.Prelude.{sum_by}
-use Rattle.std.specs.List.{slice_get}
-use Rattle.std.proofs.lemmas.List.{length-map}
+use Rattle.bus_semantics.specs.Common.{slice_get, length-map}
 use Rattle.bundle_objects.specs.Acting.{Adds}
 use Rattle.bundle_objects.specs.Kept.{BundleState, clear_in}
 use Rattle.bundle_objects.specs.Leading.{store_at}

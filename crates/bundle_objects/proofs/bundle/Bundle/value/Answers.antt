@@ -1,8 +1,6 @@
 use Rattle.std.proofs.Common.{◌≡◌, ◌<◌, length, sym, ◌∙◌, ap, subst, arith, Some}
 use Rattle.std.specs.Prelude.{IfSome, option_and_then}
-use Rattle.std.specs.List.{slice_get}
-use Rattle.std.proofs.lemmas.List.{length-map}
-use Rattle.bus_semantics.specs.Plan.{plan_of}
+use Rattle.bus_semantics.specs.Common.{slice_get, length-map, plan_of}
 use Rattle.object_kinds.proofs.Lists.{mapped_at}
 use Rattle.data_objects.specs.Kept as groups
 use Rattle.data_objects.specs.Leading.{value_in}

@@ -1,6 +1,5 @@
 use Rattle.std.proofs.Common.{◌≡◌, sym, ◌∙◌, ap, subst, false}
-use Rattle.std.proofs.lemmas.Bool.{false≢true}
-use Rattle.bus_semantics.specs.Wanted.{wanted_of}
+use Rattle.bus_semantics.specs.Common.{false≢true, wanted_of}
 use Rattle.object_kinds.specs.Kinds.{IsAnswerOf}
 use Rattle.clock_objects.specs.Kept.{may_start}
 use Rattle.clock_objects.specs.Leading.{lead, why_held}

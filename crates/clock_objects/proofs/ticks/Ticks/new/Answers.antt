@@ -1,7 +1,6 @@
 use Rattle.std.proofs.Common.{◌≡◌, ◌≤◌, sym, ◌∙◌, ap, subst, map, length, arith}
 use Rattle.std.specs.Prelude.{All}
-use Rattle.bus_semantics.specs.Plan.{plan_of, kind_of}
-use Rattle.bus_semantics.specs.Objects.{clock}
+use Rattle.bus_semantics.specs.Common.{plan_of, kind_of, clock}
 use Rattle.tick_events.specs.Kept.{fresh}
 use Rattle.object_kinds.specs.Layout.{events_of}
 use Rattle.object_kinds.proofs.Events.{few_events}

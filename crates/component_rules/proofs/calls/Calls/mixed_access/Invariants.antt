@@ -1,7 +1,6 @@
 use Rattle.std.proofs.Common.{◌≡◌, drop}
-use Rattle.plan_definitions.specs.Firsts.{first_of}
+use Rattle.plan_definitions.specs.Common.{first_of, mixed_among}
 use Rattle.plan_definitions.specs.declared.spot.Spot.{Spot}
-use Rattle.plan_definitions.specs.Calls.{mixed_among}
 use Rattle.component_rules.proofs.calls.Calls.mixed_access.Given as goal
 
 abbrev pub invariant-loop-position : goal.invariant-loop-position

@@ -1,8 +1,7 @@
 use Rattle.std.proofs.Common.{◌≡◌, drop}
-use Rattle.plan_definitions.specs.Firsts.{first_of, unless}
+use Rattle.plan_definitions.specs.Common.{first_of, unless, event_keeps}
 use Rattle.plan_definitions.specs.declared.spot.Spot.{Spot}
 use Rattle.plan_definitions.specs.declared.spot.Spot.TheVariants as spot
-use Rattle.plan_definitions.specs.Calls.{event_keeps}
 use Rattle.component_rules.proofs.calls.Calls.mixed_event.Given as goal
 
 abbrev pub invariant-loop-position : goal.invariant-loop-position

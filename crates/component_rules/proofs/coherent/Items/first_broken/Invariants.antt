@@ -1,8 +1,7 @@
 use Rattle.std.proofs.Common.{◌≡◌, drop}
-use Rattle.plan_definitions.specs.Firsts.{first_of, unless}
+use Rattle.plan_definitions.specs.Common.{first_of, unless, list_fits}
 use Rattle.plan_definitions.specs.declared.spot.Spot.{Spot}
 use Rattle.plan_definitions.specs.declared.spot.Spot.TheVariants as spot
-use Rattle.plan_definitions.specs.Coherent.{list_fits}
 use Rattle.component_rules.proofs.coherent.Items.first_broken.Given as goal
 
 abbrev pub invariant-loop-list : goal.invariant-loop-list

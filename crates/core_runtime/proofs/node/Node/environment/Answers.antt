@@ -1,12 +1,7 @@
 use Rattle.std.proofs.Common.{◌≡◌, true, refl, sym, ◌∙◌, subst, arith, inr, None, ◌∷◌}
-use Rattle.std.proofs.lemmas.Bool.{false≢true}
+use Rattle.bus_semantics.specs.Common.{false≢true, wish_fits, entries_of, touched_by, plan_of, wanted_of}
 use Rattle.bus_semantics.specs.declared.entries.Actor.TheVariants.{Env}
-use Rattle.bus_semantics.specs.Fitting.{wish_fits}
-use Rattle.bus_semantics.specs.Objects.{entries_of, touched_by}
-use Rattle.bus_semantics.specs.Plan.{plan_of}
-use Rattle.bus_semantics.specs.Wanted.{wanted_of}
-use Rattle.core_runtime.specs.Nodes.{NodeState, IsLawfulNode}
-use Rattle.core_runtime.specs.Watching.{IsAfter, IsWatch}
+use Rattle.core_runtime.specs.Common.{NodeState, IsLawfulNode, IsAfter, IsWatch}
 use Rattle.core_runtime.proofs.Areas.{still_waiting}
 use Rattle.core_lanes.proofs.Calls.{never_held, is_free_one}
 use Rattle.core_runtime.proofs.Outside.{lawful_beside, touches_one, is_there, is_planned, may_ask, lawful_on, node_then, touches_then, within_then}

@@ -1,10 +1,6 @@
 use Rattle.std.proofs.Common.{◌≡◌, ◌⊎◌, inl, inr, length, sym, ◌∙◌, ap, subst}
-use Rattle.bus_semantics.specs.History.{History}
-use Rattle.bus_semantics.specs.Plan.{plan_of}
-use Rattle.bus_semantics.specs.Rest.{IsIdle}
-use Rattle.core_runtime.specs.After.{after}
-use Rattle.core_runtime.specs.Nodes.{NodeState, IsLawfulNode}
-use Rattle.core_runtime.specs.Turns.{NothingMayCome}
+use Rattle.bus_semantics.specs.Common.{History, plan_of, IsIdle}
+use Rattle.core_runtime.specs.Common.{after, NodeState, IsLawfulNode, NothingMayCome}
 use Rattle.core_runtime.proofs.Ending.{is_idle}
 use Rattle.core_runtime.proofs.Rounded.{made_by, node_after, nothing_at_last}
 use Rattle.core_runtime.proofs.node.Node.run_alone.Goals as goal

@@ -1,9 +1,6 @@
 use Rattle.std.proofs.Common.{◌≤◌, ◌*◌, ◌∙◌, sym, ap, subst, arith, length, None}
-use Rattle.std.specs.Vec.{vec_capacity}
-use Rattle.bus_semantics.specs.Plan.{plan_of}
-use Rattle.core_runtime.specs.declared.live.Live.{Live}
-use Rattle.core_runtime.specs.Nodes.{NodeState, IsLawfulNode, IsNode}
-use Rattle.core_runtime.specs.Watching.{IsWatch}
+use Rattle.bus_semantics.specs.Common.{vec_capacity, plan_of}
+use Rattle.core_runtime.specs.Common.{Live, NodeState, IsLawfulNode, IsNode, IsWatch}
 use Rattle.core_runtime.proofs.Together.{on_ok, on_err, turned_on, same_on, node_now, room_on, ran_few, ran_goes}
 use Rattle.core_runtime.proofs.node.Node.run_many.Goals as goal
 

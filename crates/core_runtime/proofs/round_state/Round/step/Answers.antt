@@ -1,19 +1,13 @@
 use Rattle.std.proofs.Common.{◌≡◌, ◌<◌, refl, sym, ◌∙◌, ap, subst, arith, length, map, set, true, false, None}
-use Rattle.std.specs.Vec.{with_item, vec_capacity}
+use Rattle.bus_semantics.specs.Common.{vec_capacity, and_parts, same_Some, plan_of, fits, starts_its_own, touched_by, IsObject}
+use Rattle.std.specs.Vec.{with_item}
 use Rattle.std.specs.Prelude.{IfSome}
-use Rattle.std.proofs.lemmas.Bool.{and_parts}
-use Rattle.std.proofs.lemmas.Option.{same_Some}
 use Rattle.bus_semantics.specs.declared.entries.Stamped.{Stamped}
-use Rattle.bus_semantics.specs.Plan.{plan_of}
-use Rattle.bus_semantics.specs.Fitting.{fits}
-use Rattle.bus_semantics.specs.Locality.{starts_its_own}
-use Rattle.bus_semantics.specs.Objects.{touched_by, IsObject}
 use Rattle.port_objects.specs.Benches.{written_last}
 use Rattle.core_turn.specs.Cores.{CoreState}
 use Rattle.task_slots.specs.Slots.{events_of_slot, table_of}
 use Rattle.core_lanes.specs.Rooms.{HasRoom}
-use Rattle.core_runtime.specs.Rounds.{RoundState, IsRound, IsLater, Rested, Stepped}
-use Rattle.core_runtime.specs.Watching.{IsAfter, IsWatch}
+use Rattle.core_runtime.specs.Common.{RoundState, IsRound, IsLater, Rested, Stepped, IsAfter, IsWatch}
 use Rattle.latches.proofs.Places.{found_at}
 use Rattle.core_runtime.proofs.Areas.{still_waiting}
 use Rattle.core_runtime.proofs.Turned.{after_step, awake_on, waiting_on, events_kept, seated_on, owners_same, behind_on}

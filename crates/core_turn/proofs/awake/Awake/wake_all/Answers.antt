@@ -1,6 +1,5 @@
 use Rattle.std.proofs.Common.{◌≡◌, ◌<◌, ◌≤◌, length, sym, ◌∙◌, ap, arith, Some}
-use Rattle.std.specs.List.{slice_get}
-use Rattle.std.proofs.lemmas.Option.{slice_get-get_or}
+use Rattle.bus_semantics.specs.Common.{slice_get, slice_get-get_or}
 use Rattle.core_turn.specs.Cores.{CoreState}
 use Rattle.core_turn.specs.Awake.{AwakeState}
 use Rattle.core_turn.proofs.AllAwake.{begun, width_at, roused, all_awake_held}

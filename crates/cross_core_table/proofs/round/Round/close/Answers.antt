@@ -1,12 +1,8 @@
 use Rattle.std.proofs.Common.{◌≤◌, ◌∙◌, ℕ, List, map, sym, ap, subst, le_trans}
 use Rattle.bus_semantics.specs.declared.entries.Stamped.{Stamped}
-use Rattle.bus_semantics.specs.Interleaving.{IsInterleaved}
+use Rattle.bus_semantics.specs.Common.{IsInterleaved, vec_capacity}
 use Rattle.std.specs.Slots.{slots_items}
-use Rattle.std.specs.Vec.{vec_capacity}
-use Rattle.cross_core_table.specs.OpenRounds.{OpenRound}
-use Rattle.cross_core_table.specs.Seats.{AreSeatsOf, made_of}
-use Rattle.cross_core_table.specs.Taking.{round_at}
-use Rattle.cross_core_table.specs.Ordering.{items_of}
+use Rattle.cross_core_table.specs.Common.{OpenRound, AreSeatsOf, made_of, round_at, items_of}
 use Rattle.cross_core_table.proofs.Closes.{has_ended, word_first, third, closed_is}
 use Rattle.cross_core_table.proofs.round.Round.close.Goals as goal
 

@@ -1,7 +1,6 @@
 use Rattle.std.proofs.Common.{◌≡◌, ◌<◌, ◌∙◌, ap, sym, subst, length, get_or, set, false, arith}
-use Rattle.std.proofs.lemmas.List.{length-map, map-set}
+use Rattle.bus_semantics.specs.Common.{length-map, map-set, slice_get-get_or}
 use Rattle.std.proofs.lemmas.List.Elements.{All-set, All-get_or}
-use Rattle.std.proofs.lemmas.Option.{slice_get-get_or}
 use Rattle.latches.specs.Latches.{Latch, clear_in}
 use Rattle.data_objects.specs.Flags.{are_set, AreOneGroup}
 use Rattle.data_objects.proofs.flags.Flags.clear.Goals as goal

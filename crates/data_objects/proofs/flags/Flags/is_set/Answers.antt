@@ -1,7 +1,5 @@
 use Rattle.std.proofs.Common.{◌<◌, ◌∙◌, ap, sym, length, get_or, Some, arith}
-use Rattle.std.specs.List.{slice_get}
-use Rattle.std.proofs.lemmas.List.{length-map}
-use Rattle.std.proofs.lemmas.Option.{slice_get-get_or}
+use Rattle.bus_semantics.specs.Common.{slice_get, length-map, slice_get-get_or}
 use Rattle.latches.specs.Latches.{Latch, clear_in}
 use Rattle.data_objects.proofs.OneGroup.{read_set}
 use Rattle.data_objects.proofs.flags.Flags.is_set.Goals as goal

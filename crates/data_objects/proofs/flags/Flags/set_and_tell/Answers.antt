@@ -1,7 +1,6 @@
 use Rattle.std.proofs.Common.{◌≡◌, ◌∙◌, ap, sym, subst, length, replicate, true, false, ℕ, ◌⊎◌, inl, inr, arith, refl}
-use Rattle.std.specs.List.{slice_get, Contains}
+use Rattle.bus_semantics.specs.Common.{slice_get, Contains, slice_get_within, get_or_from_slice_get}
 use Rattle.std.proofs.lemmas.List.Elements.{All-map, All-get_or}
-use Rattle.std.proofs.lemmas.Option.{slice_get_within, get_or_from_slice_get}
 use Rattle.latches.specs.Latches.{Latch, after_set, IsNamedIn}
 use Rattle.data_objects.specs.Flags.{are_set, AreOneGroup, IsOfClear}
 use Rattle.data_objects.proofs.OneGroup.{all_set, behind, told_of, clear_counted}

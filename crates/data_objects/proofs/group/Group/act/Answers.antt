@@ -1,7 +1,5 @@
 use Rattle.std.proofs.Common.{subst}
-use Rattle.bus_semantics.specs.Plan.{plan_of}
-use Rattle.bus_semantics.specs.Wanted.{wanted_of}
-use Rattle.bus_semantics.specs.Objects.{touched}
+use Rattle.bus_semantics.specs.Common.{plan_of, wanted_of, touched}
 use Rattle.object_kinds.specs.Layout.{group_at}
 use Rattle.data_objects.specs.Acting.{IsActed}
 use Rattle.data_objects.specs.Plans.{IsGroupOfPlan}

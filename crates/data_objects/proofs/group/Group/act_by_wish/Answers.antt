@@ -1,6 +1,5 @@
 use Rattle.std.proofs.Common.{sym, ◌∙◌, ap, subst}
-use Rattle.bus_semantics.specs.Plan.{plan_of}
-use Rattle.bus_semantics.specs.Wanted.{wanted_of}
+use Rattle.bus_semantics.specs.Common.{plan_of, wanted_of}
 use Rattle.data_objects.specs.Acting.{IsActed, group_seen}
 use Rattle.data_objects.proofs.Acting.{acted_long}
 use Rattle.data_objects.proofs.group.Group.act_by_wish.Goals as goal

@@ -1,5 +1,4 @@
-use Rattle.bus_semantics.specs.Plan.{plan_of}
-use Rattle.bus_semantics.specs.Wanted.{wanted_of}
+use Rattle.bus_semantics.specs.Common.{plan_of, wanted_of}
 use Rattle.data_objects.proofs.Acting.{acted_answers, acted_planned, acted_same}
 use Rattle.data_objects.proofs.group.Group.act_in_group.Goals as goal
 

@@ -3,8 +3,7 @@ use Rattle.bus_semantics.specs.declared.entries.Deed.TheVariants as deed
 use Rattle.bus_semantics.specs.declared.entries.Entry.{Entry}
 use Rattle.bus_semantics.specs.Wanted.{to_invalidate}
 use Rattle.data_objects.specs.KeptValues as data_kept
-use Rattle.object_kinds.specs.Layout.{place}
-use Rattle.object_kinds.specs.Flags.{is_pending}
+use Rattle.object_kinds.specs.Common.{place, is_pending}
 use Rattle.data_objects.specs.Acting.{Leads}
 use Rattle.data_objects.proofs.Telling.{state, none_tells}
 use Rattle.data_objects.proofs.group.Group.invalidate.Goals as goal

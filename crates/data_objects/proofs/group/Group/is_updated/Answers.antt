@@ -1,8 +1,7 @@
 use Rattle.std.proofs.Common.{◌≡◌, length, sym, ◌∙◌, ap, subst, Some}
 use Rattle.bus_semantics.specs.declared.entries.Deed.TheVariants as deed
 use Rattle.bus_semantics.specs.declared.entries.Entry.{Entry}
-use Rattle.bus_semantics.specs.Plan.{plan_of}
-use Rattle.bus_semantics.specs.Wanted.{to_see_updated}
+use Rattle.bus_semantics.specs.Common.{plan_of, to_see_updated}
 use Rattle.object_kinds.specs.Layout.{place, members_of}
 use Rattle.data_objects.specs.Acting.{Leads}
 use Rattle.data_objects.specs.Kept.{GroupState}

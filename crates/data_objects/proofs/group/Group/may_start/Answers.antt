@@ -1,6 +1,5 @@
 use Rattle.std.proofs.Common.{◌≡◌, ◌<◌, length, arith, sym, ◌∙◌, ap, Some, None}
-use Rattle.object_kinds.specs.Layout.{place}
-use Rattle.object_kinds.specs.Flags.{is_pending}
+use Rattle.object_kinds.specs.Common.{place, is_pending}
 use Rattle.object_kinds.proofs.Flags.{flag_is}
 use Rattle.object_kinds.proofs.Placing.{place_within}
 use Rattle.data_objects.specs.Kept.{GroupState, may_start}

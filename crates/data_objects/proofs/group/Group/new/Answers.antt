@@ -1,10 +1,7 @@
 use Rattle.std.proofs.Common.{◌≡◌, ◌≤◌, true, sym, ◌∙◌, ap, subst, arith, length}
-use Rattle.std.specs.Vec.{vec_capacity}
-use Rattle.std.proofs.lemmas.List.{length-map}
-use Rattle.bus_semantics.specs.Plan.{plan_of}
+use Rattle.bus_semantics.specs.Common.{vec_capacity, length-map, plan_of}
 use Rattle.data_objects.specs.KeptValues.{Kept}
-use Rattle.object_kinds.specs.Layout.{waits_for_data}
-use Rattle.object_kinds.specs.Rising.{is_rising}
+use Rattle.object_kinds.specs.Common.{waits_for_data, is_rising}
 use Rattle.object_kinds.proofs.Events.{events_rise}
 use Rattle.data_objects.specs.Layout.{receiver_of}
 use Rattle.data_objects.proofs.group.Group.new.Goals as goal

@@ -1,6 +1,5 @@
 use Rattle.std.proofs.Common.{◌≡◌, length, sym, ◌∙◌, ap}
-use Rattle.std.proofs.lemmas.List.{length-map}
-use Rattle.bus_semantics.specs.Plan.{plan_of}
+use Rattle.bus_semantics.specs.Common.{length-map, plan_of}
 use Rattle.object_kinds.specs.Layout.{members_of}
 use Rattle.data_objects.specs.Kept.{GroupState}
 use Rattle.data_objects.specs.Layout.{initial_of}

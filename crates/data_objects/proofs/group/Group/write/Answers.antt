@@ -1,8 +1,7 @@
 use Rattle.std.proofs.Common.{refl, sym, ap, subst, Some}
-use Rattle.rte_value.specs.Values.{words_of}
+use Rattle.bus_semantics.specs.Common.{words_of, to_write}
 use Rattle.bus_semantics.specs.declared.entries.Deed.TheVariants as deed
 use Rattle.bus_semantics.specs.declared.entries.Entry.{Entry}
-use Rattle.bus_semantics.specs.Wanted.{to_write}
 use Rattle.data_objects.specs.Acting.{Leads}
 use Rattle.data_objects.proofs.Telling.{state, write_tells}
 use Rattle.data_objects.proofs.group.Group.write.Goals as goal

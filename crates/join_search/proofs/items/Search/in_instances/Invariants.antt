@@ -1,9 +1,7 @@
 use Rattle.std.proofs.Common.{◌≡◌, drop, Some}
 use Rattle.description_types.specs.declared.description.PrototypeType.TheVariants as of_type
-use Rattle.description_types.specs.declared.flat.End.{End}
+use Rattle.plan_definitions.specs.Common.{End, first_of, in_ports}
 use Rattle.plan_definitions.specs.Connectors.{ports_of}
-use Rattle.plan_definitions.specs.Firsts.{first_of}
-use Rattle.plan_definitions.specs.JoinedItems.{in_ports}
 use Rattle.join_search.proofs.items.Search.in_instances.Given as goal
 
 abbrev pub invariant-loop-number : goal.invariant-loop-number

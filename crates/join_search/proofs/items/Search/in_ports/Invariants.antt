@@ -1,7 +1,5 @@
 use Rattle.std.proofs.Common.{◌≡◌, drop, None, if◌then◌else◌}
-use Rattle.description_types.specs.declared.flat.End.{End}
-use Rattle.plan_definitions.specs.Firsts.{first_of}
-use Rattle.plan_definitions.specs.JoinedItems.{in_port, requires_at}
+use Rattle.plan_definitions.specs.Common.{End, first_of, in_port, requires_at}
 use Rattle.join_search.proofs.items.Search.in_ports.Given as goal
 
 abbrev pub invariant-loop-number : goal.invariant-loop-number

@@ -1,6 +1,5 @@
 use Rattle.std.proofs.Common.{◌≡◌, refl, sym, ◌∙◌, ap, subst}
-use Rattle.std.proofs.lemmas.Option.{same_Some}
-use Rattle.bus_semantics.specs.Plan.{plan_of}
+use Rattle.bus_semantics.specs.Common.{same_Some, plan_of}
 use Rattle.cross_core_table.specs.OpenRounds.{OpenRound}
 use Rattle.cross_core_table.specs.Seats.{IsSeatOf, view_of, made_of, core_of}
 use Rattle.feed_queue.specs.Passes.{order_of}

@@ -1,7 +1,6 @@
 use Rattle.std.proofs.Common.{refl, sym, ◌∙◌, ap, subst}
-use Rattle.std.specs.List.{slice_index_or}
+use Rattle.bus_semantics.specs.Common.{slice_index_or, to_move_on}
 use Rattle.bus_semantics.specs.declared.entries.Deed.TheVariants as deed
-use Rattle.bus_semantics.specs.Wanted.{to_move_on}
 use Rattle.mode_machine.specs.declared.machine.Advanced.TheVariants as advanced
 use Rattle.mode_machine.specs.Kept.{after_advance, is_phase}
 use Rattle.object_kinds.specs.declared.acted.Shown.TheVariants.{NoSwitch, Running, Owed}

@@ -1,17 +1,9 @@
 use Rattle.std.proofs.Common.{◌≡◌, ◌≤◌, ◌+◌, true, false, sym, ◌∙◌, ap, subst, arith, length, map}
 use Rattle.std.specs.Prelude.{filter, is_none}
-use Rattle.std.specs.List.{list_all}
-use Rattle.std.specs.Vec.{vec_capacity}
-use Rattle.std.proofs.lemmas.List.{length-map, length-replicate}
-use Rattle.bus_semantics.specs.Plan.{plan_of, kind_of}
-use Rattle.bus_semantics.specs.Modes.{initial_of}
-use Rattle.bus_semantics.specs.Objects.{first_machine}
+use Rattle.bus_semantics.specs.Common.{list_all, vec_capacity, length-map, length-replicate, plan_of, kind_of, initial_of, first_machine}
 use Rattle.rte_value.specs.declared.kinds.Step.TheVariants.{Entry}
-use Rattle.mode_machine.specs.Disabling.{idle_dependency}
-use Rattle.mode_machine.specs.Kept.{Kept}
-use Rattle.mode_machine.specs.Owed.{never_owed, owed_by}
-use Rattle.object_kinds.specs.Layout.{place}
-use Rattle.object_kinds.specs.Rising.{is_rising}
+use Rattle.mode_machine.specs.Common.{idle_dependency, Kept, never_owed, owed_by}
+use Rattle.object_kinds.specs.Common.{place, is_rising}
 use Rattle.object_kinds.proofs.Events.{events_rise, few_events}
 use Rattle.machine_objects.specs.Layout.{owed_events, ack_events, disabled_events, disabling_modes, moment_at, may_disable, waits_for_end, waits_for_phase}
 use Rattle.machine_objects.specs.Plans.{IsOfPlan}

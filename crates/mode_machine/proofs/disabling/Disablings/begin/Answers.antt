@@ -1,8 +1,7 @@
 use Rattle.std.proofs.Common.{◌<◌, ◌∙◌, ap, sym, subst, length, set, arith, true, Some}
 use Rattle.std.specs.List.{slice_index_or}
 use Rattle.std.proofs.lemmas.List.{length-set}
-use Rattle.mode_machine.specs.Chains.{IsNext}
-use Rattle.mode_machine.specs.Disabling.{Watched, dependencies, dependency_of, has_mode, holds_at, no_dependency}
+use Rattle.mode_machine.specs.Common.{IsNext, Watched, dependencies, dependency_of, has_mode, holds_at, no_dependency}
 use Rattle.mode_machine.proofs.Watching.{as_many_dependencies, begun_held, dependencies_set, lying, modes_there, not_first, rests_held}
 use Rattle.mode_machine.proofs.disabling.Disablings.begin.Goals as goal
 

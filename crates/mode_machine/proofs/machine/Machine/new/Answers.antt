@@ -2,9 +2,7 @@ use Rattle.std.proofs.Common.{ℕ, ◌∙◌, ap, arith, length, map, false}
 use Rattle.std.proofs.lemmas.List.{length-map}
 use Rattle.circular_buffer.specs.Buffer.{Buffer}
 use Rattle.rte_value.specs.declared.kinds.Step.TheVariants as step
-use Rattle.mode_machine.specs.Disabling.{Watched, idle_dependency, modes_in}
-use Rattle.mode_machine.specs.Owed.{never_owed, owed_by}
-use Rattle.mode_machine.specs.Tracked.{Tracked}
+use Rattle.mode_machine.specs.Common.{Watched, idle_dependency, modes_in, never_owed, owed_by, Tracked}
 use Rattle.mode_machine.proofs.machine.Machine.new.Goals as goal
 
 pub invariant_of-result : goal.invariant_of-result

@@ -1,7 +1,5 @@
 use Rattle.std.proofs.Common.{◌<◌, ◌∙◌, ap, sym, subst, length, map, arith}
-use Rattle.mode_machine.specs.Chains.{AreChains, IsNext}
-use Rattle.mode_machine.specs.Owed.{after_end}
-use Rattle.mode_machine.specs.Tracked.{AreTracked, Tracked, is_left, moment_in}
+use Rattle.mode_machine.specs.Common.{AreChains, IsNext, after_end, AreTracked, Tracked, is_left, moment_in}
 use Rattle.mode_machine.proofs.Nexts.{other_place, same_place}
 use Rattle.mode_machine.proofs.Tracking.{end_chains, end_first, end_other, made_at}
 use Rattle.mode_machine.proofs.tracked.TrackedEvents.end.Goals as goal

@@ -1,7 +1,5 @@
 use Rattle.std.proofs.Common.{◌∙◌, ap, position, refl}
-use Rattle.mode_machine.specs.Owed.{idle_event}
-use Rattle.mode_machine.specs.Tracked.{Tracked}
-use Rattle.mode_machine.specs.declared.owed.OwedEvent.{OwedEvent}
+use Rattle.mode_machine.specs.Common.{idle_event, Tracked, OwedEvent}
 use Rattle.mode_machine.proofs.Nexts.{is_position}
 use Rattle.mode_machine.proofs.tracked.TrackedEvents.first_left.Goals as goal
 

@@ -1,7 +1,5 @@
 use Rattle.std.proofs.Common.{◌∙◌, ap, sym, subst, map}
-use Rattle.mode_machine.specs.Chains.{AreChains, IsNext, occurs}
-use Rattle.mode_machine.specs.Owed.{owed_by}
-use Rattle.mode_machine.specs.Tracked.{AreTracked, IsReady, Tracked, if_at, moment_in}
+use Rattle.mode_machine.specs.Common.{AreChains, IsNext, occurs, owed_by, AreTracked, IsReady, Tracked, if_at, moment_in}
 use Rattle.mode_machine.proofs.Tracking.{both_owed, moments_kept, phase_tracked}
 use Rattle.mode_machine.proofs.tracked.TrackedEvents.owe.Goals as goal
 

@@ -1,6 +1,5 @@
 use Rattle.std.proofs.Common.{◌<◌, ◌∙◌, ap, sym, subst, length, set, arith}
-use Rattle.mode_machine.specs.Owed.{after_owed_start}
-use Rattle.mode_machine.specs.Tracked.{AreTracked, Tracked, event_at}
+use Rattle.mode_machine.specs.Common.{after_owed_start, AreTracked, Tracked, event_at}
 use Rattle.mode_machine.proofs.Tracking.{made_at, start_tracked}
 use Rattle.mode_machine.proofs.tracked.TrackedEvents.start.Goals as goal
 

@@ -1,8 +1,5 @@
 use Rattle.std.proofs.Common.{◌≡◌, ◌<◌, ◌∙◌, ℕ, ap, sym, subst, map, length, false, inl, inr}
-use Rattle.mode_machine.specs.Chains.{occurs}
-use Rattle.mode_machine.specs.Owed.{is_woken}
-use Rattle.mode_machine.specs.Tracked.{IsReady, Tracked, event_at, moment_in}
-use Rattle.mode_machine.specs.declared.owed.OwedEvent.{OwedEvent}
+use Rattle.mode_machine.specs.Common.{occurs, is_woken, IsReady, Tracked, event_at, moment_in, OwedEvent}
 use Rattle.mode_machine.proofs.Tracking.{not_woken}
 use Rattle.mode_machine.proofs.tracked.TrackedEvents.tell.Goals as goal
 

@@ -1,6 +1,5 @@
 use Rattle.std.proofs.Common.{rules, sym, subst, Some, None}
-use Rattle.bus_semantics.specs.Plan.{plan_of}
-use Rattle.bus_semantics.specs.Wanted.{wanted_of}
+use Rattle.bus_semantics.specs.Common.{plan_of, wanted_of}
 use Rattle.port_objects.specs.Benches.{Told, IsActed}
 use Rattle.port_objects.proofs.Written.{benched_made}
 use Rattle.port_objects.proofs.plain_bench.PlainBenchBench.act_into.Goals as goal

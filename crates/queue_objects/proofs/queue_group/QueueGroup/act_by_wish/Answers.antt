@@ -1,10 +1,5 @@
 use Rattle.std.proofs.Common.{◌≡◌, true, Some, sym, ◌∙◌, ap, subst}
-use Rattle.rte_value.specs.Values.{words_of}
-use Rattle.bus_semantics.specs.Fitting.{wish_fits}
-use Rattle.bus_semantics.specs.Plan.{plan_of}
-use Rattle.bus_semantics.specs.Bundles.{bundle_of}
-use Rattle.bus_semantics.specs.Wanted.{Wanted, to_send, wanted_of}
-use Rattle.bus_semantics.specs.Objects.{object_of, touched}
+use Rattle.bus_semantics.specs.Common.{words_of, wish_fits, plan_of, bundle_of, Wanted, to_send, wanted_of, object_of, touched}
 use Rattle.queue_objects.specs.Acting.{IsActed}
 use Rattle.queue_objects.proofs.Acting.{sent_words}
 use Rattle.queue_objects.proofs.queue_group.QueueGroup.act_by_wish.Goals as goal

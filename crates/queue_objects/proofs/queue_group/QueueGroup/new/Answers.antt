@@ -1,13 +1,9 @@
 use Rattle.std.proofs.Common.{◌≡◌, ◌≤◌, ◌<◌, true, sym, ◌∙◌, ap, subst, arith, length, map}
 use Rattle.std.specs.Prelude.{All, filter}
-use Rattle.std.specs.Vec.{vec_capacity}
-use Rattle.std.proofs.lemmas.List.{length-map}
+use Rattle.bus_semantics.specs.Common.{vec_capacity, length-map, plan_of, kind_of, places_at}
 use Rattle.std.proofs.lemmas.List.Elements.{filter_passes}
-use Rattle.bus_semantics.specs.Plan.{plan_of, kind_of}
-use Rattle.bus_semantics.specs.Queued.{places_at}
 use Rattle.queued_ports.specs.Kept.{Kept, empty_queue}
-use Rattle.object_kinds.specs.Layout.{events_of}
-use Rattle.object_kinds.specs.Rising.{is_rising}
+use Rattle.object_kinds.specs.Common.{events_of, is_rising}
 use Rattle.object_kinds.proofs.Events.{events_rise}
 use Rattle.queue_objects.specs.Layout.{receivers_of, waits_for_receiver, receiver_of}
 use Rattle.queue_objects.specs.Plans.{IsGroupOfPlan}

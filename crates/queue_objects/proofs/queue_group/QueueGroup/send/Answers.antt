@@ -1,8 +1,7 @@
 use Rattle.std.proofs.Common.{subst}
-use Rattle.rte_value.specs.Values.{words_of}
+use Rattle.bus_semantics.specs.Common.{words_of, to_send}
 use Rattle.bus_semantics.specs.declared.entries.Deed.TheVariants as deed
 use Rattle.bus_semantics.specs.declared.entries.Entry.{Entry}
-use Rattle.bus_semantics.specs.Wanted.{to_send}
 use Rattle.queue_objects.specs.Acting.{Leads}
 use Rattle.queue_objects.proofs.Acting.{send_leads}
 use Rattle.queue_objects.proofs.Telling.{state}

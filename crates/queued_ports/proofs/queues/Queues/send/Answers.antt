@@ -11,7 +11,8 @@ use Rattle.latches.proofs.Told.{Stays}
 use Rattle.queued_ports.specs.declared.queues.Queues.TheInside.{Inside}
 use Rattle.queued_ports.specs.Kept.{Kept, after_arrival, after_send, empty_queue, has_room, takes}
 use Rattle.queued_ports.proofs.Arriving.{takes_as}
-use Rattle.queued_ports.proofs.Sending.{IsOnly, Tells, after_some, all_got, all_lit, all_told, answer_lost, answer_so_far, answer_taken, lit_by, next_as, next_got, next_lit, next_stays, none_lit, only_told, same_events, shown, tells_next}
+use Rattle.queued_ports.proofs.Sending.{IsOnly, Tells, after_some, all_got, all_lit, all_told, answer_lost, answer_so_far, answer_taken, lit_by, next_as, next_got, next_lit, next_stays}
+use Rattle.queued_ports.proofs.Sending.{none_lit, only_told, same_events, shown, tells_next}
 use Rattle.queued_ports.proofs.queues.Queues.send.Goals as goal
 use Rattle.queued_ports.proofs.queues.Queues.send.Goals.{then-arrive, else-arrive}
 

@@ -1,6 +1,5 @@
 use Rattle.std.proofs.Common.{◌≡◌, ◌<◌, length, arith, sym, ◌∙◌, ap, Some}
-use Rattle.std.specs.List.{slice_get}
-use Rattle.std.proofs.lemmas.Option.{slice_get-get_or}
+use Rattle.bus_semantics.specs.Common.{slice_get, slice_get-get_or}
 use Rattle.object_kinds.specs.Layout.{place}
 use Rattle.object_kinds.proofs.Placing.{place_within}
 use Rattle.server_objects.specs.Kept.{Kept, ServerState, awaited_at}

@@ -1,14 +1,11 @@
 use Rattle.std.proofs.Common.{◌≡◌, ◌<◌, ◌≤◌, ◌+◌, arith, length, map, sym, ◌∙◌, ap, subst, is_some, true}
 use Rattle.std.specs.Prelude.{All, IfSome}
-use Rattle.std.proofs.lemmas.List.{length-map, length-replicate}
+use Rattle.bus_semantics.specs.Common.{length-map, length-replicate, first_server, plan_of, kind_of, positions, queue_of}
 use Rattle.std.proofs.lemmas.List.Elements.{filter_passes}
 use Rattle.bus_semantics.specs.declared.plan.EventKind.TheVariants.{Invoked}
-use Rattle.bus_semantics.specs.Objects.{first_server}
-use Rattle.bus_semantics.specs.Plan.{plan_of, kind_of, positions, queue_of}
 use Rattle.client_server.specs.Kept as calls
 use Rattle.client_server.specs.Points.{new_point}
-use Rattle.object_kinds.specs.Layout.{events_of, place}
-use Rattle.object_kinds.specs.Rising.{is_rising}
+use Rattle.object_kinds.specs.Common.{events_of, place, is_rising}
 use Rattle.object_kinds.proofs.Events.{events_rise}
 use Rattle.object_kinds.proofs.Positions.{few_positions}
 use Rattle.server_objects.specs.Kept.{Kept, awaiting, opening_at}

@@ -1,5 +1,4 @@
-use Rattle.std.specs.List.{slice_get}
-use Rattle.std.proofs.lemmas.Option.{slice_get-get_or}
+use Rattle.bus_semantics.specs.Common.{slice_get, slice_get-get_or}
 use Rattle.std.proofs.Common.{◌≡◌, Some, ◌<◌, ◌++◌, [], ◌∷◌, true, arith, length, sym, ◌∙◌, ap, subst}
 use Rattle.server_objects.specs.Acting.{ReturnLeads}
 use Rattle.server_objects.specs.Kept.{Kept, ServerState, awaiting, has_next, told_where}

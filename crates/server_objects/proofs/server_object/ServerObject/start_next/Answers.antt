@@ -1,7 +1,6 @@
 use Rattle.std.proofs.Common.{◌≡◌, ◌<◌, arith, length, sym, ◌∙◌, ap, subst, Some, None, is_some}
 use Rattle.std.specs.Prelude.{IsSome, IfSome}
-use Rattle.std.specs.List.{slice_get}
-use Rattle.std.proofs.lemmas.Option.{slice_get-get_or}
+use Rattle.bus_semantics.specs.Common.{slice_get, slice_get-get_or}
 use Rattle.client_server.specs.declared.point.Request.{Request}
 use Rattle.server_objects.specs.Acting.{IsStart}
 use Rattle.server_objects.specs.Kept.{Kept, ServerState}

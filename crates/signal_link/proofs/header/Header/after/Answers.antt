@@ -1,6 +1,5 @@
 use Rattle.std.proofs.Common.{◌++◌, ◌∷◌, [], sym, subst}
-use Rattle.signal_link.specs.declared.header.Header.{Header}
-use Rattle.signal_link.specs.Parts.{IsNext, header_bytes}
+use Rattle.signal_link.specs.Common.{Header, IsNext, header_bytes}
 use Rattle.signal_link.proofs.header.Header.after.Goals as goal
 
 pub returns-in-Nothing : goal.returns-in-Nothing

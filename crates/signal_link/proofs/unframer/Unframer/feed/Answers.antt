@@ -1,8 +1,6 @@
 use Rattle.std.proofs.Common.{◌++◌, List, take, sym, subst}
-use Rattle.signal_link.specs.declared.link_elem.LinkElem.{LinkElem}
+use Rattle.signal_link.specs.Common.{LinkElem, begun_of, kept_of, Kept, StandsFor, given}
 use Rattle.signal_link.specs.Feeding.{feed_of}
-use Rattle.signal_link.specs.Parts.{begun_of, kept_of}
-use Rattle.signal_link.specs.Unframing.{Kept, StandsFor, given}
 use Rattle.signal_link.proofs.Streams.{fed_stands}
 use Rattle.signal_link.proofs.unframer.Unframer.feed.Goals as goal
 

@@ -1,9 +1,7 @@
 use Rattle.std.proofs.Common.{arith, ◌≡◌, ◌+◌, [], ◌∷◌, ◌++◌, if◌then◌else◌, length, map, sym, ap, ◌∙◌}
-use Rattle.std.proofs.lemmas.List.{length-map}
+use Rattle.bus_semantics.specs.Common.{length-map, expr_tree, stmt_tree, body_tree, chooses, to_enter, to_leave}
 use denote.Param.Weighed.{at_most}
 use Rattle.runnable_lang.proofs.stmt.Stmt.TheLaws.{the_size}
-use Rattle.runnable_lang.specs.Trees.{expr_tree, stmt_tree, body_tree, chooses}
-use Rattle.bus_semantics.specs.Wanted.{to_enter, to_leave}
 use Rattle.task_machine.specs.declared.instr.Taken.TheVariants as taken
 use Rattle.task_machine.specs.Targets.{number_at}
 use Rattle.task_machine.specs.Instructions.{instruction_of, skip, call, change_of, passes_nothing}

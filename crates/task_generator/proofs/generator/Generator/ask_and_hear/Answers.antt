@@ -1,12 +1,10 @@
 use Rattle.std.proofs.Common.{[], ◌∷◌, ◌++◌, map, ap, ◌∙◌}
 use Rattle.runnable_lang.specs.declared.program.AccessKind.TheVariants as kind
-use Rattle.runnable_lang.specs.Trees.{exprs}
-use Rattle.bus_semantics.specs.Wanted.{to_ask, to_hear}
+use Rattle.bus_semantics.specs.Common.{exprs, to_ask, to_hear}
 use Rattle.task_machine.specs.declared.instr.Taken.TheVariants as taken
 use Rattle.task_machine.specs.Targets.{number_at}
 use Rattle.task_machine.specs.Instructions.{Shared, instruction_of, call, change_of, passes_of}
-use Rattle.task_generator.specs.Code.{given_over}
-use Rattle.task_generator.specs.Numbers.{numbered}
+use Rattle.task_generator.specs.Common.{given_over, numbered}
 use Rattle.task_generator.proofs.Patching.{two_more}
 use Rattle.task_generator.proofs.generator.Generator.ask_and_hear.Goals as goal
 

@@ -1,11 +1,5 @@
 use Rattle.std.proofs.Common.{◌≡◌, ℤ, List, [], ◌∷◌, ◌++◌, ◌⊎◌, inl, inr, map, refl, sym, ap, ◌∙◌}
-use Rattle.std.proofs.lemmas.List.{append-nil}
-use Rattle.std.proofs.lemmas.Slice.Zip.{either_empty_from_Zip}
-use Rattle.rte_value.specs.declared.kinds.Limits.{Limits}
-use Rattle.rte_value.specs.Arithmetic.{clamped_each}
-use Rattle.runnable_lang.specs.declared.stmt.Expr.{Expr}
-use Rattle.runnable_lang.specs.Expressions.{worth}
-use Rattle.runnable_lang.specs.Trees.{exprs}
+use Rattle.bus_semantics.specs.Common.{append-nil, either_empty_from_Zip, Limits, clamped_each, Expr, worth, exprs}
 use Rattle.task_machine.specs.Words.{words_given}
 use Rattle.task_generator.proofs.generator.Generator.given_words.Goals as goal
 

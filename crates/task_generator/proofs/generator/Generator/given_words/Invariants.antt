@@ -1,11 +1,8 @@
 use Rattle.std.proofs.Common.{◌≡◌, ◌≤◌, ◌+◌, ◌++◌, length, map}
-use Rattle.rte_value.specs.Arithmetic.{clamped_each}
-use Rattle.runnable_lang.specs.Trees.{exprs}
-use Rattle.runnable_lang.specs.Expressions.{worth}
+use Rattle.bus_semantics.specs.Common.{clamped_each, exprs, worth}
 use Rattle.task_machine.specs.Store.{Store}
 use Rattle.task_machine.specs.Words.{words_given}
-use Rattle.task_generator.specs.Numbers.{numbered}
-use Rattle.task_generator.specs.Code.{given_over}
+use Rattle.task_generator.specs.Common.{numbered, given_over}
 use Rattle.task_generator.proofs.generator.Generator.given_words.Given as goal
 
 abbrev pub invariant-loop-limits : goal.invariant-loop-limits

@@ -1,6 +1,5 @@
 use Rattle.std.proofs.Common.{◌++◌, take, drop, sym}
-use Rattle.std.specs.Arc.{arc_value}
-use Rattle.std.specs.Option.{option_copied}
+use Rattle.bus_semantics.specs.Common.{arc_value, option_copied}
 use Rattle.task_machine.proofs.Settling.{resolved_at}
 use Rattle.task_machine.proofs.instr.Body.at.Goals as goal
 

@@ -1,7 +1,5 @@
 use Rattle.std.proofs.Common.{◌≡◌, ℕ, zero, suc, [], ◌∷◌, map, replicate, pos, None, refl, ap, ◌∙◌}
-use Rattle.std.specs.Option.{option_map}
-use Rattle.rte_value.specs.Values.{words_of}
-use Rattle.bus_semantics.specs.State.{stored}
+use Rattle.bus_semantics.specs.Common.{option_map, words_of, stored}
 use Rattle.task_machine.proofs.store.Store.begin.Goals as goal
 
 mapped : {X Y : Type 0} → (f : X → Y) (n : ℕ) (x : X) → map f (replicate n x) ≡ replicate n (f x)

@@ -1,6 +1,5 @@
 use Rattle.std.proofs.Common.{ℤ, List, ap}
-use Rattle.std.proofs.lemmas.List.{map-set}
-use Rattle.rte_value.specs.Values.{words_of}
+use Rattle.bus_semantics.specs.Common.{map-set, words_of}
 use Rattle.task_machine.specs.Store.{Store}
 use Rattle.task_machine.specs.Spots.{store_of}
 use Rattle.task_machine.proofs.store.Store.fetch.Goals as goal

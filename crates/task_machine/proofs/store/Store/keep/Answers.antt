@@ -1,7 +1,5 @@
 use Rattle.std.proofs.Common.{ℤ, List, Option, Some, ap}
-use Rattle.std.specs.Option.{option_map}
-use Rattle.std.proofs.lemmas.List.{map-set}
-use Rattle.rte_value.specs.Values.{words_of}
+use Rattle.bus_semantics.specs.Common.{option_map, map-set, words_of}
 use Rattle.task_machine.specs.Store.{Store}
 use Rattle.task_machine.specs.Spots.{store_of}
 use Rattle.task_machine.proofs.store.Store.keep.Goals as goal

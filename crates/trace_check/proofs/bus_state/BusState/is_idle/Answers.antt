@@ -1,6 +1,5 @@
 use Rattle.std.proofs.Common.{◌≡◌, true, false, refl, sym, ◌∙◌, rules}
-use Rattle.std.proofs.lemmas.Bool.{false≢true}
-use Rattle.bus_semantics.specs.Rest.{none_runs}
+use Rattle.bus_semantics.specs.Common.{false≢true, none_runs}
 use Rattle.trace_check.specs.Along.{plan_in}
 use Rattle.trace_check.proofs.Making.{idle_then}
 use Rattle.trace_check.proofs.bus_state.BusState.is_idle.Goals as goal

@@ -1,10 +1,6 @@
 use Rattle.std.proofs.Common.{◌≡◌, true, sym, ◌∙◌, rules}
-use Rattle.std.proofs.lemmas.Result.{IfOk-weaker}
+use Rattle.bus_semantics.specs.Common.{IfOk-weaker, wish_fits, key_fits, history_of, to_start}
 use Rattle.bus_semantics.specs.declared.entries.Actor.TheVariants.{Act}
-use Rattle.bus_semantics.specs.Fitting.{wish_fits}
-use Rattle.bus_semantics.specs.Owners.{key_fits}
-use Rattle.bus_semantics.specs.Run.{history_of}
-use Rattle.bus_semantics.specs.Wanted.{to_start}
 use Rattle.trace_check.specs.Along.{plan_in}
 use Rattle.trace_check.proofs.Asking.{begins}
 use Rattle.trace_check.proofs.check.Check.begin.Goals as goal

@@ -1,10 +1,7 @@
 use Rattle.std.proofs.Common.{◌≡◌, ◌∷◌, true, false, refl, sym, ap, ◌∙◌, rules}
 use Rattle.std.proofs.lemmas.Option.{MatchOption-at_some}
 use Rattle.bus_semantics.specs.declared.entries.Actor.TheVariants.{Env}
-use Rattle.bus_semantics.specs.Fitting.{wish_fits}
-use Rattle.bus_semantics.specs.History.{is_environment}
-use Rattle.bus_semantics.specs.Run.{a_call, history_of, made}
-use Rattle.bus_semantics.specs.Wanted.{wanted_of}
+use Rattle.bus_semantics.specs.Common.{wish_fits, is_environment, a_call, history_of, made, wanted_of}
 use Rattle.trace_check.specs.Along.{plan_in}
 use Rattle.trace_check.proofs.Asking.{called, calls_itself}
 use Rattle.trace_check.proofs.Judging.{entry_called}

@@ -1,7 +1,5 @@
 use Rattle.std.proofs.Common.{◌≡◌, true, refl, subst, rules}
-use Rattle.std.proofs.lemmas.Bool.{and_parts}
-use Rattle.bus_semantics.specs.Fitting.{fits}
-use Rattle.bus_semantics.specs.Run.{history_of, made, made_in_line}
+use Rattle.bus_semantics.specs.Common.{and_parts, fits, history_of, made, made_in_line}
 use Rattle.trace_check.specs.Along.{Makes, plan_in}
 use Rattle.trace_check.specs.Order.{TakesItem}
 use Rattle.trace_check.proofs.Judging.{along, entry_made, entry_refused}

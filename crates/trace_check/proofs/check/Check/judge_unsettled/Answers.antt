@@ -1,6 +1,5 @@
 use Rattle.std.proofs.Common.{◌≡◌, ◌==◌, true, false, refl, sym, ◌∙◌, rules}
-use Rattle.std.proofs.lemmas.Bool.{and_parts}
-use Rattle.bus_semantics.specs.Run.{unsettled}
+use Rattle.bus_semantics.specs.Common.{and_parts, unsettled}
 use Rattle.trace_check.specs.Checking.{most_made}
 use Rattle.trace_check.proofs.Judging.{closed, settled, unsettled_then}
 use Rattle.trace_check.proofs.check.Check.judge_unsettled.Goals as goal

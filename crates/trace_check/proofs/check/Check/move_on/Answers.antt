@@ -1,9 +1,5 @@
 use Rattle.std.proofs.Common.{◌≡◌, true, sym, ap, ◌∙◌, rules}
-use Rattle.std.proofs.lemmas.Result.{IfOk-weaker}
-use Rattle.bus_semantics.specs.Fitting.{wish_fits}
-use Rattle.bus_semantics.specs.History.{is_environment}
-use Rattle.bus_semantics.specs.Run.{history_of}
-use Rattle.bus_semantics.specs.Wanted.{to_move_on}
+use Rattle.bus_semantics.specs.Common.{IfOk-weaker, wish_fits, is_environment, history_of, to_move_on}
 use Rattle.trace_check.specs.Along.{plan_in}
 use Rattle.trace_check.proofs.Asking.{moves_on}
 use Rattle.trace_check.proofs.check.Check.move_on.Goals as goal

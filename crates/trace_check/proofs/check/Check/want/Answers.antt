@@ -1,8 +1,5 @@
 use Rattle.std.proofs.Common.{◌≡◌, true, sym, ap, ◌∙◌, rules}
-use Rattle.std.proofs.lemmas.Result.{IfOk-weaker}
-use Rattle.bus_semantics.specs.Owners.{key_fits}
-use Rattle.bus_semantics.specs.Run.{history_of}
-use Rattle.bus_semantics.specs.Wanted.{wanted_of}
+use Rattle.bus_semantics.specs.Common.{IfOk-weaker, key_fits, history_of, wanted_of}
 use Rattle.task_machine.specs.Frames.{wanted_in}
 use Rattle.trace_check.specs.Along.{plan_in}
 use Rattle.trace_check.proofs.Asking.{wants}

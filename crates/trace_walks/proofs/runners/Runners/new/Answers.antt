@@ -1,6 +1,5 @@
 use Rattle.std.proofs.Common.{◌∙◌, sym, ap, false, length, get_or}
-use Rattle.std.proofs.lemmas.List.{length-map, length-replicate}
-use Rattle.bus_semantics.specs.Plan.{plan_of, runnable_of}
+use Rattle.bus_semantics.specs.Common.{length-map, length-replicate, plan_of, runnable_of}
 use Rattle.trace_walks.proofs.Flags.{none_at_first, none_set}
 use Rattle.trace_walks.proofs.runners.Runners.new.Goals as goal
 

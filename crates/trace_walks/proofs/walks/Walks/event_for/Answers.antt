@@ -1,7 +1,5 @@
 use Rattle.std.proofs.Common.{◌≡◌, ◌∙◌, sym, ap, true, Some}
-use Rattle.std.specs.Option.{option_map}
-use Rattle.bus_semantics.specs.Plan.{plan_of}
-use Rattle.bus_semantics.specs.History.{needs_event}
+use Rattle.bus_semantics.specs.Common.{option_map, plan_of, needs_event}
 use Rattle.trace_walks.specs.Standing.{walk_of}
 use Rattle.trace_walks.proofs.Following.{key_of_entry, event_is, no_walk}
 use Rattle.trace_walks.proofs.walks.Walks.event_for.Goals as goal

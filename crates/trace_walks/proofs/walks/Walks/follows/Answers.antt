@@ -1,6 +1,5 @@
 use Rattle.std.proofs.Common.{◌≡◌, ◌∙◌, sym, ap, not, Some}
-use Rattle.std.specs.Option.{option_map}
-use Rattle.bus_semantics.specs.Plan.{plan_of}
+use Rattle.bus_semantics.specs.Common.{option_map, plan_of}
 use Rattle.trace_walks.specs.Standing.{walk_of}
 use Rattle.trace_walks.proofs.Following.{key_of_entry, follows_free, follows_held, no_walk}
 use Rattle.trace_walks.proofs.walks.Walks.follows.Goals as goal

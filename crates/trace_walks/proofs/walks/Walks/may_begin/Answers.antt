@@ -1,6 +1,5 @@
 use Rattle.std.proofs.Common.{◌≡◌, ◌∙◌, sym, ap, Some}
-use Rattle.std.specs.Option.{option_map}
-use Rattle.bus_semantics.specs.Plan.{plan_of}
+use Rattle.bus_semantics.specs.Common.{option_map, plan_of}
 use Rattle.trace_walks.specs.Standing.{walk_of}
 use Rattle.trace_walks.proofs.Following.{begins_is, held_is}
 use Rattle.trace_walks.proofs.walks.Walks.may_begin.Goals as goal

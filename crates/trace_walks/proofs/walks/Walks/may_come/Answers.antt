@@ -1,6 +1,5 @@
 use Rattle.std.proofs.Common.{◌∙◌, sym, ap}
-use Rattle.bus_semantics.specs.Plan.{plan_of}
-use Rattle.bus_semantics.specs.Actor.{starts_or_goes_on}
+use Rattle.bus_semantics.specs.Common.{plan_of, starts_or_goes_on}
 use Rattle.trace_walks.proofs.Following.{begins_is, goes_as, walk_stands}
 use Rattle.trace_walks.proofs.walks.Walks.may_come.Goals as goal
 

@@ -1,7 +1,5 @@
 use Rattle.std.proofs.Common.{◌∙◌, sym, ap, refl, length}
-use Rattle.std.proofs.lemmas.List.{length-map}
-use Rattle.bus_semantics.specs.Plan.{plan_of, runnable_of}
-use Rattle.bus_semantics.specs.Rest.{plain_key}
+use Rattle.bus_semantics.specs.Common.{length-map, plan_of, runnable_of, plain_key}
 use Rattle.trace_walks.proofs.Fresh.{not_running}
 use Rattle.trace_walks.proofs.walks.Walks.new.Goals as goal
 
