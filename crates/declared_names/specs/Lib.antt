@@ -3,5 +3,3 @@ pub mod Names
 pub mod Scopes
 pub mod Components
 pub mod Sizes
-pub mod FirstPlaces
-pub mod Catalogs

@@ -2,8 +2,7 @@
 //!
 //! `scope_of` gathers the names of a description's types, interfaces, components and compositions, `component_names` those
 //! of one component. A name stands at the position of the first item of this name, and at the number of items if none
-//! has it. `catalog_of` gathers the names of all lists that the rules of distinct names and of references look in, however long
-//! they are. Names are looked up by hash, in maps that are built once for each list that declares them. Beside them stands
+//! has it. Names are looked up by hash, in maps that are built once for each list that declares them. Beside them stands
 //! what is taken from a JSON value: a key that is missing or of another kind counts as empty, zero or false.
 //!
 //! # Decisions
@@ -15,29 +14,20 @@
 //!
 //! **Why are there two kinds of lists, and why is one of 64 bits?** The rules are judged of every file, before it is known that it is
 //! short enough for positions of 32 bits; what is read is of a file that is.
-//!
-//! **What is kept of a list that no name refers to?** Where each of its names first stands, and no name: the rule of distinct names
-//! asks for no more. An access is told apart by the texts of its parts, and a mapped event's position by the task's text and the number.
 #![tactic(auto)]
 
-mod catalogs;
-mod first_places;
 mod in_component;
 mod names;
 mod scopes;
 mod values;
 
-pub use catalogs::{
-    BehaviorLists, Catalog, ComponentLists, CompositionLists, InterfaceLists, MappingLists,
-    PortLists, PrototypeLists, TypeLists, TypeNumber, catalog_of,
-};
 pub use in_component::{ComponentNames, InComponent, component_names};
 pub use names::{
     NameList, Positions, declared, declared_texts, find_at, has_at, short_names, texts,
 };
 pub use scopes::{
-    InterfaceNames, PrototypeNames, Scope, TypeNames, interface_names, prototype_names, scope_of,
-    type_names,
+    InterfaceNames, PrototypeNames, Scope, TypeNames, interface_names, item_names, prototype_names,
+    scope_of, type_names,
 };
 pub use values::{
     copy_at, flag_at, item, items_at, items_in, items_of_part, number_at, number_of_part,

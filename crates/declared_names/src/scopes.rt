@@ -46,7 +46,8 @@ pub struct Scope<'a> {
     pub prototypes: PrototypeNames<'a>,
 }
 
-pub(crate) fn item_names<'a>(alloc: Global, value: &'a Value) -> Result<Vec<&'a str>, Memory>
+/// The names of an interface's items: its data elements, its operations or its mode element.
+pub fn item_names<'a>(alloc: Global, value: &'a Value) -> Result<Vec<&'a str>, Memory>
     ensures { IfOk result (λ names. map text_of names.items ≡ item_names (view value.now)) }
 {
     let kind = text_at(value, "kind");

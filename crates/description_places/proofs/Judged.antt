@@ -2,8 +2,9 @@
 use Rattle.std.proofs.Common.{◌≡◌, List, [], ◌∷◌, Bool, true, false, cond, ◌||◌, Some, None, option_map, refl, sym}
 use Rattle.std.specs.List.{find}
 use Rattle.serde_json.specs.Data.{Data}
-use Rattle.description_places.specs.Rules.{breaks_names, breaks_shape, breaks_shape_or_names, least_of, refusal, refusal_of_names, visits_of}
-use Rattle.description_places.specs.Visits.{Visit, first_broken}
+use Rattle.description_shapes.specs.Rules.{breaks_names, breaks_shape, breaks_shape_or_names, visits_of}
+use Rattle.description_places.specs.Rules.{least_of, refusal, refusal_of_names}
+use Rattle.description_shapes.specs.Visits.{Visit, first_broken}
 
 -- where no visit breaks one of two rules, none breaks either
 module _ (a b : Visit → Bool) where

@@ -1,7 +1,6 @@
-pub mod Members
-pub mod Tables
-pub mod Unbroken
-pub mod Walks
-pub mod Judged
 pub mod Calculating
+pub mod Judged
+mod Lists
+pub mod Named
 pub mod Texts
+pub mod Unbroken

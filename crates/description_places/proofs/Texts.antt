@@ -7,10 +7,10 @@ use Rattle.std.proofs.lemmas.List.Folds.{list_all-append}
 use Rattle.std.specs.Cmp.{first_so, second_so}
 use Rattle.std.specs.Str.Parse.{digits_value}
 use Rattle.serde_json.specs.Data.{Items, no_items, item}
-use Rattle.declared_names.specs.FirstPlaces.{parts_text, task_text}
+use Rattle.description_places.specs.FirstPlaces.{parts_text, task_text}
 use Rattle.declared_names.specs.Values.{text_in, texts_of}
-use Rattle.description_places.specs.Names.{is_letter, is_letter_or_digit, is_name}
-use Rattle.description_places.specs.Shape.{is_within}
+use Rattle.description_shapes.specs.Names.{is_letter, is_letter_or_digit, is_name}
+use Rattle.description_shapes.specs.Shape.{is_within}
 
 -- the text has no such byte
 abbrev has_no : ℕ → List ℕ → Bool

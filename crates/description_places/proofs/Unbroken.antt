@@ -3,11 +3,12 @@ use Rattle.std.proofs.Common.{◌≡◌, ℕ, List, [], ◌∷◌, Bool, true, f
 use Rattle.std.specs.List.{All, find}
 use Rattle.std.proofs.lemmas.List.Elements.{All-nil, All-cons}
 use Rattle.serde_json.specs.Data.{Data}
-use Rattle.declared_names.specs.Catalogs.{catalog_of}
+use Rattle.description_places.specs.Catalogs.{catalog_of}
 use Rattle.description_places.specs.Distinct.{breaks_distinct}
 use Rattle.description_places.specs.References.{breaks_references}
-use Rattle.description_places.specs.Rules.{least_of, refusal, refusal_of_names, visits_of, breaks_shape, breaks_names}
-use Rattle.description_places.specs.Visits.{Visit, first_broken}
+use Rattle.description_shapes.specs.Rules.{visits_of, breaks_shape, breaks_names}
+use Rattle.description_places.specs.Rules.{least_of, refusal, refusal_of_names}
+use Rattle.description_shapes.specs.Visits.{Visit, first_broken}
 
 some_none : {X : Type 0} {x : X} → ◌≡◌ {A = Option X} (Some x) None → ⊥
 some_none e = cc

@@ -1,22 +1,22 @@
 -- Rule 4: the names that one list declares are distinct. Lists of names that refer declare none.
 use Rattle.std.specs.Prelude.{ℕ, List, Bool, false, ◌||◌, nat_lt, slice_get, Option, Some, None, option_and_then}
 use Rattle.serde_json.specs.Data.{Data}
-use Rattle.declared_names.specs.declared.catalogs.Catalog.{Catalog}
-use Rattle.declared_names.specs.declared.catalogs.TypeNumber.{TypeNumber}
-use Rattle.declared_names.specs.declared.catalogs.TypeNumber.TheVariants as of
+use Rattle.description_places.specs.declared.catalogs.Catalog.{Catalog}
+use Rattle.description_places.specs.declared.catalogs.TypeNumber.{TypeNumber}
+use Rattle.description_places.specs.declared.catalogs.TypeNumber.TheVariants as of
 use Rattle.declared_names.specs.Names.{Names, has_name, position_in}
 use Rattle.declared_names.specs.Values.{text_in}
-use Rattle.description_places.specs.declared.kind.Kind.{Kind}
-use Rattle.description_places.specs.declared.kind.Kind.TheVariants.{DataType, ModeGroup, SenderReceiverInterface, ClientServerInterface, ModeSwitchInterface, UnknownInterface, DataElement}
-use Rattle.description_places.specs.declared.kind.Kind.TheVariants.{Operation, Argument, OperationError, Component, Port, Variable, Runnable, TimingEvent, InitEvent, DataReceivedEvent}
-use Rattle.description_places.specs.declared.kind.Kind.TheVariants.{OperationInvokedEvent, CallReturnsEvent, ModeSwitchEvent, ModeTransitionEvent, ModeSwitchAckEvent, UnknownEvent}
-use Rattle.description_places.specs.declared.kind.Kind.TheVariants.{Composition, Prototype, Task, DeclaredName, DeclaredMode, DeclaredArea, ComSpecItem, Position, ItemAccess, VariableAccess}
-use Rattle.description_places.specs.declared.kind.Kind.TheVariants.{PortAccess, AreaAccess}
+use Rattle.description_shapes.specs.declared.kind.Kind.{Kind}
+use Rattle.description_shapes.specs.declared.kind.Kind.TheVariants.{DataType, ModeGroup, SenderReceiverInterface, ClientServerInterface, ModeSwitchInterface, UnknownInterface, DataElement}
+use Rattle.description_shapes.specs.declared.kind.Kind.TheVariants.{Operation, Argument, OperationError, Component, Port, Variable, Runnable, TimingEvent, InitEvent, DataReceivedEvent}
+use Rattle.description_shapes.specs.declared.kind.Kind.TheVariants.{OperationInvokedEvent, CallReturnsEvent, ModeSwitchEvent, ModeTransitionEvent, ModeSwitchAckEvent, UnknownEvent}
+use Rattle.description_shapes.specs.declared.kind.Kind.TheVariants.{Composition, Prototype, Task, DeclaredName, DeclaredMode, DeclaredArea, ComSpecItem, Position, ItemAccess, VariableAccess}
+use Rattle.description_shapes.specs.declared.kind.Kind.TheVariants.{PortAccess, AreaAccess}
 use Rattle.description_places.specs.Around.{number_of, owner_of, type_around}
 use Rattle.description_places.specs.Owners.{component_of, composition_of}
-use Rattle.description_places.specs.Shape.{holds}
-use Rattle.description_places.specs.Spots.{Level}
-use Rattle.description_places.specs.Visits.{Visit}
+use Rattle.description_shapes.specs.Shape.{holds}
+use Rattle.description_shapes.specs.Spots.{Level}
+use Rattle.description_shapes.specs.Visits.{Visit}
 
 -- the name stands at an earlier place than this of its list
 abbrev pub stands_before : Names → List ℕ → (number : ℕ) → Bool

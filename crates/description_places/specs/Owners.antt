@@ -1,10 +1,10 @@
 -- What the component or composition declares that a value stands in.
 use Rattle.std.specs.Prelude.{slice_get, Option, Some, None}
-use Rattle.declared_names.specs.declared.catalogs.Catalog.{Catalog}
-use Rattle.declared_names.specs.declared.catalogs.ComponentLists.{ComponentLists}
-use Rattle.declared_names.specs.declared.catalogs.CompositionLists.{CompositionLists}
-use Rattle.declared_names.specs.declared.catalogs.TypeNumber.{TypeNumber}
-use Rattle.declared_names.specs.declared.catalogs.TypeNumber.TheVariants.{Component, Composition}
+use Rattle.description_places.specs.declared.catalogs.Catalog.{Catalog}
+use Rattle.description_places.specs.declared.catalogs.ComponentLists.{ComponentLists}
+use Rattle.description_places.specs.declared.catalogs.CompositionLists.{CompositionLists}
+use Rattle.description_places.specs.declared.catalogs.TypeNumber.{TypeNumber}
+use Rattle.description_places.specs.declared.catalogs.TypeNumber.TheVariants.{Component, Composition}
 
 abbrev pub component_of : Catalog → Option TypeNumber → Option ComponentLists
 component_of c (Some (Component n)) = slice_get c.prototypes.in_components n

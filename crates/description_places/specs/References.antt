@@ -2,21 +2,21 @@
 use Rattle.std.specs.Prelude.{ℕ, List, Bool, true, false, not, ◌||◌, nat_lt, slice_get, Option, Some, None, option_and_then, codes}
 use Rattle.serde_json.specs.Data.{Data}
 use Rattle.serde_json.specs.Find.{as_number, as_u64}
-use Rattle.declared_names.specs.declared.catalogs.Catalog.{Catalog}
-use Rattle.declared_names.specs.declared.catalogs.ComponentLists.{ComponentLists}
-use Rattle.declared_names.specs.declared.catalogs.CompositionLists.{CompositionLists}
-use Rattle.declared_names.specs.declared.catalogs.TypeNumber.{TypeNumber}
-use Rattle.declared_names.specs.declared.catalogs.TypeNumber.TheVariants as of
+use Rattle.description_places.specs.declared.catalogs.Catalog.{Catalog}
+use Rattle.description_places.specs.declared.catalogs.ComponentLists.{ComponentLists}
+use Rattle.description_places.specs.declared.catalogs.CompositionLists.{CompositionLists}
+use Rattle.description_places.specs.declared.catalogs.TypeNumber.{TypeNumber}
+use Rattle.description_places.specs.declared.catalogs.TypeNumber.TheVariants as of
 use Rattle.declared_names.specs.Names.{has_at, has_name, position_in, texts}
 use Rattle.declared_names.specs.Values.{items_at, text_at, text_in, text_of_part}
-use Rattle.description_places.specs.declared.kind.Kind.{Kind}
-use Rattle.description_places.specs.declared.kind.Kind.TheVariants.{TypeName, GroupName, InterfaceName, PrototypeTypeName, RootName, TaskName, InitialMode, RunnableName, ComponentPort}
-use Rattle.description_places.specs.declared.kind.Kind.TheVariants.{OuterPort, AreaName, VariableName, ComSpecItem, EventItem, AccessItem, PairItem, JoinedPrototype, JoinedPort, CoreNumber}
+use Rattle.description_shapes.specs.declared.kind.Kind.{Kind}
+use Rattle.description_shapes.specs.declared.kind.Kind.TheVariants.{TypeName, GroupName, InterfaceName, PrototypeTypeName, RootName, TaskName, InitialMode, RunnableName, ComponentPort}
+use Rattle.description_shapes.specs.declared.kind.Kind.TheVariants.{OuterPort, AreaName, VariableName, ComSpecItem, EventItem, AccessItem, PairItem, JoinedPrototype, JoinedPort, CoreNumber}
 use Rattle.description_places.specs.Around.{number_at, value_at, type_around}
 use Rattle.description_places.specs.Owners.{component_of, composition_of}
-use Rattle.description_places.specs.Shape.{holds}
-use Rattle.description_places.specs.Spots.{Level}
-use Rattle.description_places.specs.Visits.{Visit}
+use Rattle.description_shapes.specs.Shape.{holds}
+use Rattle.description_shapes.specs.Spots.{Level}
+use Rattle.description_shapes.specs.Visits.{Visit}
 
 -- the component or composition declares the port
 abbrev pub type_has : Catalog → List ℕ → Option TypeNumber → Bool

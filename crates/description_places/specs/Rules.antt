@@ -1,41 +1,15 @@
 -- The rules that each value of a description is judged by, and the refusal.
-use Rattle.std.specs.Prelude.{◌≡◌, ℕ, List, [], ◌∷◌, Bool, not, ◌&&◌, ◌||◌, Option, Some, None, ◌⊎◌, IsUtf8, codes}
+use Rattle.std.specs.Prelude.{◌≡◌, ℕ, List, [], ◌∷◌, Option, Some, None, ◌⊎◌, IsUtf8, codes}
 use Rattle.serde_json.specs.Data.{Data}
-use Rattle.serde_json.specs.Find.{as_str}
 use Rattle.serde_json.specs.Read.{read}
 use Rattle.rte_text.specs.declared.refusal.Refusal.{Refusal}
 use Rattle.rte_text.specs.declared.refusal.Refused.{Refused}
 use Rattle.rte_text.specs.declared.refusal.Refused.TheVariants.{Rule, Memory}
-use Rattle.declared_names.specs.Catalogs.{catalog_of}
-use Rattle.declared_names.specs.declared.catalogs.Catalog.{Catalog}
-use Rattle.description_places.specs.declared.kind.Kind.{Kind}
-use Rattle.description_places.specs.declared.kind.Kind.TheVariants.{Description}
+use Rattle.description_places.specs.Catalogs.{catalog_of}
+use Rattle.description_places.specs.declared.catalogs.Catalog.{Catalog}
 use Rattle.description_places.specs.Distinct.{breaks_distinct}
-use Rattle.description_places.specs.Forms.{form_of}
-use Rattle.description_places.specs.Names.{is_name, is_name_form}
 use Rattle.description_places.specs.References.{breaks_references}
-use Rattle.description_places.specs.Shape.{holds, has_shape}
-use Rattle.description_places.specs.Spots.{top}
-use Rattle.description_places.specs.Visits.{Visit, visits, first_broken}
-
--- rule 2: each value has the shape of its kind
-abbrev pub breaks_shape : Visit → Bool
-breaks_shape v = not (has_shape v.kind v.value)
-
--- rule 3: each name has 1 to 32 bytes, a letter, then letters, digits and _
-abbrev pub is_no_name : Kind → Data → Bool
-is_no_name kind d = is_name_form (form_of kind) && not (holds is_name (as_str d))
-
-abbrev pub breaks_names : Visit → Bool
-breaks_names v = is_no_name v.kind v.value
-
--- rules 2 and 3 together
-abbrev pub breaks_shape_or_names : Visit → Bool
-breaks_shape_or_names v = breaks_shape v || breaks_names v
-
--- the values of the description d in document order
-abbrev pub visits_of : Data → List Visit
-visits_of d = visits d Description top
+use Rattle.description_shapes.specs.Visits.{first_broken}
 
 -- Rule 4: what a list declares has distinct names; the place is the second one. Lists of names that refer declare none.
 -- Rule 5: what the names refer to is declared.

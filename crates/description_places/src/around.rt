@@ -5,11 +5,11 @@ ghost use Rattle.serde_json.specs.Data.{null};
 ghost use Rattle.serde_json.specs.View.{view};
 ghost use Rattle.declared_names.specs.Values.{text_at, text_of_part};
 ghost use Rattle.description_places.specs.Around.{number_at, number_of, value_at, owner_of, type_of, type_around};
-ghost use Rattle.description_places.specs.Trails.{spot_of};
+ghost use Rattle.description_shapes.specs.Trails.{spot_of};
 
-use crate::kind::Kind;
-use crate::trail::Trail;
-use declared_names::{TypeNumber, text_at, text_of_part};
+use crate::catalogs::TypeNumber;
+use declared_names::{text_at, text_of_part};
+use description_shapes::{Kind, Trail};
 use serde_json::Value;
 
 fn number_at(value: &Value, key: &str) -> u64

@@ -2,22 +2,19 @@
 
 ghost use Rattle.std.specs.Prelude.{◌≡◌, Some, option_and_then, option_copied, slice_get};
 ghost use Rattle.serde_json.specs.View.{view};
-ghost use Rattle.declared_names.specs.declared.catalogs.TypeNumber.TheVariants as of;
+ghost use Rattle.description_places.specs.declared.catalogs.TypeNumber.TheVariants as of;
 ghost use Rattle.description_places.specs.Around.{number_of, owner_of, type_around};
 ghost use Rattle.description_places.specs.Distinct.{breaks_distinct, composition_before, firsts_of_operation, firsts_of_port, is_access_before, is_later, is_later_in, is_named_before};
 ghost use Rattle.description_places.specs.Distinct.{is_repeated, item_before, port_before, stands_before};
 ghost use Rattle.description_places.specs.Owners.{component_of, composition_of};
-ghost use Rattle.description_places.specs.Shape.{holds};
-ghost use Rattle.description_places.specs.Trails.{spot_of};
+ghost use Rattle.description_shapes.specs.Shape.{holds};
+ghost use Rattle.description_shapes.specs.Trails.{spot_of};
 
 use crate::around::{number_of, owner_of, type_around};
-use crate::calculations::is_calculation;
-use crate::kind::Kind;
+use crate::catalogs::{Catalog, ComponentLists, CompositionLists, TypeNumber};
 use crate::owners::{component_around, composition_around};
-use crate::rule::Rule;
-use crate::skipping::declares_nothing;
-use crate::trail::Trail;
-use declared_names::{Catalog, ComponentLists, CompositionLists, NameList, TypeNumber, text_in};
+use declared_names::{NameList, text_in};
+use description_shapes::{Kind, Rule, Trail, declares_nothing, is_calculation};
 use rte_text::Seq;
 use serde_json::Value;
 

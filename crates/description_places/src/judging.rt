@@ -2,17 +2,14 @@
 
 ghost use Rattle.std.specs.Prelude.{◌≡◌, IfOk, IfErr, option_map, string_bytes};
 ghost use Rattle.serde_json.specs.View.{view};
-ghost use Rattle.description_places.specs.Rules.{refusal, refusal_by, refusal_of_names, rule_and_place, written, visits_of, IsRefusalOf, IsUnbroken};
-ghost use Rattle.description_places.specs.Visits.{first_broken};
+ghost use Rattle.description_shapes.specs.Rules.{visits_of};
+ghost use Rattle.description_places.specs.Rules.{refusal, refusal_by, refusal_of_names, rule_and_place, written, IsRefusalOf, IsUnbroken};
+ghost use Rattle.description_shapes.specs.Visits.{first_broken};
 
+use crate::catalogs::{Catalog, catalog_of};
 use crate::distinct::DistinctRule;
-use crate::kind::Kind;
 use crate::references::ReferenceRule;
-use crate::rule::Rule;
-use crate::rules::{NameRule, ShapeOrNameRule, ShapeRule};
-use crate::trail::Trail;
-use crate::walk::first_fault;
-use declared_names::{Catalog, catalog_of};
+use description_shapes::{Kind, NameRule, Rule, ShapeOrNameRule, ShapeRule, Trail, first_fault};
 use rte_text::{Memory, Refusal, Refused, Text};
 use serde_json::{Category, Value};
 use std::alloc::Global;

@@ -3,13 +3,14 @@
 ghost use Rattle.std.specs.Prelude.{◌≡◌, ℕ, ◌^◌, ◌<◌, List, true, false, None};
 ghost use Rattle.std.specs.List.{All, list_all};
 ghost use Rattle.serde_json.specs.Data.{Data, Items};
-ghost use Rattle.declared_names.specs.Catalogs.{catalog_of};
-ghost use Rattle.declared_names.specs.FirstPlaces.{parts_text, task_text};
+ghost use Rattle.description_places.specs.Catalogs.{catalog_of};
+ghost use Rattle.description_places.specs.FirstPlaces.{parts_text, task_text};
 ghost use Rattle.declared_names.specs.Values.{texts_of};
 ghost use Rattle.description_places.specs.Distinct.{breaks_distinct};
-ghost use Rattle.description_places.specs.Names.{is_name};
+ghost use Rattle.description_shapes.specs.Names.{is_name};
 ghost use Rattle.description_places.specs.References.{breaks_references};
-ghost use Rattle.description_places.specs.Rules.{refusal, visits_of, breaks_shape, breaks_names};
+ghost use Rattle.description_shapes.specs.Rules.{visits_of, breaks_shape, breaks_names};
+ghost use Rattle.description_places.specs.Rules.{refusal};
 
 /// The text of an access tells its parts, if they are names, and that of a position the task and the number.
 pub fn texts_tell_accesses_and_positions()

@@ -3,11 +3,11 @@
 ghost use Rattle.std.specs.Prelude.{◌≡◌, option_copied};
 ghost use Rattle.description_places.specs.Around.{type_around};
 ghost use Rattle.description_places.specs.Owners.{component_of, composition_of};
-ghost use Rattle.description_places.specs.Trails.{spot_of};
+ghost use Rattle.description_shapes.specs.Trails.{spot_of};
 
 use crate::around::type_around;
-use crate::trail::Trail;
-use declared_names::{Catalog, ComponentLists, CompositionLists, TypeNumber};
+use crate::catalogs::{Catalog, ComponentLists, CompositionLists, TypeNumber};
+use description_shapes::Trail;
 
 pub(crate) fn component_around<'s, 'v>(
     declared: &'s Catalog<'v>,

@@ -3,24 +3,19 @@
 ghost use Rattle.std.specs.Prelude.{◌≡◌, Some, bytes_eq, codes, map, option_copied};
 ghost use Rattle.std.specs.List.{list_any};
 ghost use Rattle.serde_json.specs.View.{view};
-ghost use Rattle.declared_names.specs.declared.catalogs.TypeNumber.TheVariants as of;
+ghost use Rattle.description_places.specs.declared.catalogs.TypeNumber.TheVariants as of;
 ghost use Rattle.declared_names.specs.Names.{has_name, texts};
 ghost use Rattle.declared_names.specs.Values.{items_at, text_in};
 ghost use Rattle.description_places.specs.Around.{value_at};
 ghost use Rattle.description_places.specs.References.{breaks_references, interface_has, is_core, is_found, item_found, port_found, port_has, prototype_has, type_has};
-ghost use Rattle.description_places.specs.Shape.{holds};
-ghost use Rattle.description_places.specs.Trails.{spot_of};
+ghost use Rattle.description_shapes.specs.Shape.{holds};
+ghost use Rattle.description_shapes.specs.Trails.{spot_of};
 
 use crate::around::{number_around, part_around, text_around, type_around, value_at};
-use crate::calculations::is_calculation;
-use crate::kind::Kind;
+use crate::catalogs::{Catalog, ComponentLists, CompositionLists, TypeNumber};
 use crate::owners::{component_around, composition_around};
-use crate::rule::Rule;
-use crate::skipping::refers_to_nothing;
-use crate::trail::Trail;
-use declared_names::{
-    Catalog, ComponentLists, CompositionLists, TypeNumber, has_at, items_at, text_in,
-};
+use declared_names::{has_at, items_at, text_in};
+use description_shapes::{Kind, Rule, Trail, is_calculation, refers_to_nothing};
 use serde_json::Value;
 
 /// Rule 5: each name refers to something declared, the root is a composition, and each core is one of the mapping's.

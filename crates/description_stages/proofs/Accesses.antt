@@ -6,22 +6,22 @@ use Rattle.serde_json.specs.Data.{Data, null, boolean, number, string, array, ob
 use Rattle.serde_json.specs.Events.{items_len}
 use Rattle.serde_json.specs.Find.{get, get_item}
 use Rattle.runnable_lang.specs.declared.program.AccessKind.TheVariants as kind
-use Rattle.description_places.specs.declared.kind.Kind.{Kind}
-use Rattle.description_places.specs.declared.kind.Kind.TheVariants as of_kind
-use Rattle.description_places.specs.declared.kind.Kind.TheVariants.{Description}
-use Rattle.description_places.specs.Alternatives.{Choice, choices_of, first_word, resolved}
+use Rattle.description_shapes.specs.declared.kind.Kind.{Kind}
+use Rattle.description_shapes.specs.declared.kind.Kind.TheVariants as of_kind
+use Rattle.description_shapes.specs.declared.kind.Kind.TheVariants.{Description}
+use Rattle.description_shapes.specs.Alternatives.{Choice, choices_of, first_word, resolved}
 use Rattle.description_places.specs.Around.{number_of, type_around}
 use Rattle.description_places.specs.Distinct.{is_access_before, is_later, is_later_in, is_repeated, stands_before}
-use Rattle.declared_names.specs.declared.catalogs.Catalog.{Catalog}
-use Rattle.declared_names.specs.Catalogs.{access_firsts, catalog_of}
-use Rattle.declared_names.specs.declared.catalogs.ComponentLists.{ComponentLists}
-use Rattle.declared_names.specs.declared.catalogs.TypeNumber.TheVariants as of
-use Rattle.declared_names.specs.FirstPlaces.{access_text, first_places}
-use Rattle.description_places.specs.Keys.{optional}
+use Rattle.description_places.specs.declared.catalogs.Catalog.{Catalog}
+use Rattle.description_places.specs.Catalogs.{access_firsts, catalog_of}
+use Rattle.description_places.specs.declared.catalogs.ComponentLists.{ComponentLists}
+use Rattle.description_places.specs.declared.catalogs.TypeNumber.TheVariants as of
+use Rattle.description_places.specs.FirstPlaces.{access_text, first_places}
+use Rattle.description_shapes.specs.Keys.{optional}
 use Rattle.description_places.specs.Owners.{component_of}
 use Rattle.description_places.specs.References.{port_has}
-use Rattle.description_places.specs.Shape.{holds, part_count}
-use Rattle.description_places.specs.Spots.{Spot, Level, top, inside, inside_part}
+use Rattle.description_shapes.specs.Shape.{holds, part_count}
+use Rattle.description_shapes.specs.Spots.{Spot, Level, top, inside, inside_part}
 use Rattle.plan_definitions.specs.Common.{TypeTable, Access, Port, accesses_distinct, items_of_port, same_access}
 use Rattle.declared_names.specs.declared.in_component.ComponentNames.{ComponentNames}
 use Rattle.declared_names.specs.declared.scopes.InterfaceNames.{InterfaceNames}

@@ -2,15 +2,15 @@
 use Rattle.std.proofs.Common.{◌≡◌, ℕ, List, [], ◌∷◌, false, true, not, None, refl, ap}
 use Rattle.bus_semantics.specs.Common.{All, list_all, and_from, All-head, All-tail}
 use Rattle.serde_json.specs.Data.{Data}
-use Rattle.declared_names.specs.declared.catalogs.Catalog.{Catalog}
-use Rattle.declared_names.specs.Catalogs.{catalog_of}
-use Rattle.description_places.specs.declared.kind.Kind.TheVariants.{Description}
+use Rattle.description_places.specs.declared.catalogs.Catalog.{Catalog}
+use Rattle.description_places.specs.Catalogs.{catalog_of}
+use Rattle.description_shapes.specs.declared.kind.Kind.TheVariants.{Description}
 use Rattle.description_places.specs.Distinct.{breaks_distinct}
 use Rattle.description_places.specs.References.{breaks_references}
 use Rattle.description_places.specs.Rules as base
-use Rattle.description_places.specs.Rules.{breaks_names, breaks_shape, visits_of}
-use Rattle.description_places.specs.Spots.{top}
-use Rattle.description_places.specs.Visits.{Visit}
+use Rattle.description_shapes.specs.Rules.{breaks_names, breaks_shape, visits_of}
+use Rattle.description_shapes.specs.Spots.{top}
+use Rattle.description_shapes.specs.Visits.{Visit}
 use Rattle.description_types.specs.Refusals.{of_rule, type_refusal}
 use Rattle.description_types.specs.Lists.{first}
 use Rattle.component_model.specs.Descriptions.{DescriptionTree, reading}

@@ -6,15 +6,15 @@ use mathlib.Core.List.{map-map}
 use Rattle.serde_json.specs.Data.{Data, null, array, Items, no_items, item}
 use Rattle.serde_json.specs.Find.{get, get_item}
 use Rattle.runnable_lang.specs.declared.program.AccessKind.TheVariants as kind
-use Rattle.description_places.specs.declared.kind.Kind.TheVariants as of_kind
-use Rattle.description_places.specs.declared.kind.Kind.TheVariants.{Description}
+use Rattle.description_shapes.specs.declared.kind.Kind.TheVariants as of_kind
+use Rattle.description_shapes.specs.declared.kind.Kind.TheVariants.{Description}
 use Rattle.description_places.specs.Distinct.{stands_before}
-use Rattle.declared_names.specs.declared.catalogs.Catalog.{Catalog}
-use Rattle.declared_names.specs.Catalogs.{access_firsts, catalog_of}
-use Rattle.declared_names.specs.declared.catalogs.ComponentLists.{ComponentLists}
-use Rattle.description_places.specs.Keys.{needed, optional}
-use Rattle.description_places.specs.Names.{is_name}
-use Rattle.description_places.specs.Spots.{Spot, top, inside, inside_part}
+use Rattle.description_places.specs.declared.catalogs.Catalog.{Catalog}
+use Rattle.description_places.specs.Catalogs.{access_firsts, catalog_of}
+use Rattle.description_places.specs.declared.catalogs.ComponentLists.{ComponentLists}
+use Rattle.description_shapes.specs.Keys.{needed, optional}
+use Rattle.description_shapes.specs.Names.{is_name}
+use Rattle.description_shapes.specs.Spots.{Spot, top, inside, inside_part}
 use Rattle.plan_definitions.specs.Common.{Interface, TypeTable, is_sound, operations_in, Component, DisabledInModes, Event, EventKind, Timing, Init, DataReceived, OperationInvoked}
 use Rattle.plan_definitions.specs.Common.{CallReturns, ModeSwitchedAck, Port, Runnable, Variable, keeps, accesses_distinct, arguments_at, component_fits, event_fits, event_kind_fits}
 use Rattle.plan_definitions.specs.Common.{names_fit, ports_fit, runnable_fits, serves_fit, variable_fits}

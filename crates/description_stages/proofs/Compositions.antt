@@ -4,15 +4,15 @@ use Rattle.bus_semantics.specs.Common.{list_all, slice_get, and_from}
 use mathlib.Core.List.{map-map}
 use Rattle.serde_json.specs.Data.{Data, array, Items}
 use Rattle.serde_json.specs.Find.{get, get_item}
-use Rattle.description_places.specs.declared.kind.Kind.TheVariants as of_kind
-use Rattle.description_places.specs.declared.kind.Kind.TheVariants.{Description}
+use Rattle.description_shapes.specs.declared.kind.Kind.TheVariants as of_kind
+use Rattle.description_shapes.specs.declared.kind.Kind.TheVariants.{Description}
 use Rattle.description_places.specs.Distinct.{stands_before}
-use Rattle.declared_names.specs.declared.catalogs.Catalog.{Catalog}
-use Rattle.declared_names.specs.Catalogs.{catalog_of, composition_lists}
-use Rattle.declared_names.specs.declared.catalogs.CompositionLists.{CompositionLists}
-use Rattle.description_places.specs.Keys.{needed, optional}
-use Rattle.description_places.specs.Shape.{holds}
-use Rattle.description_places.specs.Spots.{Spot, top, inside, inside_part}
+use Rattle.description_places.specs.declared.catalogs.Catalog.{Catalog}
+use Rattle.description_places.specs.Catalogs.{catalog_of, composition_lists}
+use Rattle.description_places.specs.declared.catalogs.CompositionLists.{CompositionLists}
+use Rattle.description_shapes.specs.Keys.{needed, optional}
+use Rattle.description_shapes.specs.Shape.{holds}
+use Rattle.description_shapes.specs.Spots.{Spot, top, inside, inside_part}
 use Rattle.plan_definitions.specs.Common.{TypeTable, Composition, Prototype, PrototypeType, names_fit, ports_fit}
 use Rattle.description_types.specs.declared.description.PrototypeType.TheVariants as of
 use Rattle.declared_names.specs.declared.scopes.InterfaceNames.{InterfaceNames}

@@ -4,23 +4,23 @@ use Rattle.bus_semantics.specs.Common.{list_all, slice_get, option_map, option_m
 use mathlib.Core.List.{map-map}
 use Rattle.serde_json.specs.Data.{Data, array, Items}
 use Rattle.serde_json.specs.Find.{get, get_item}
-use Rattle.description_places.specs.declared.kind.Kind.{Kind}
-use Rattle.description_places.specs.declared.kind.Kind.TheVariants as of_kind
-use Rattle.description_places.specs.declared.kind.Kind.TheVariants.{Description}
-use Rattle.description_places.specs.Alternatives.{choices_of, pick_if, resolved, word_at}
+use Rattle.description_shapes.specs.declared.kind.Kind.{Kind}
+use Rattle.description_shapes.specs.declared.kind.Kind.TheVariants as of_kind
+use Rattle.description_shapes.specs.declared.kind.Kind.TheVariants.{Description}
+use Rattle.description_shapes.specs.Alternatives.{choices_of, pick_if, resolved, word_at}
 use Rattle.description_places.specs.Around.{number_of, type_around}
 use Rattle.description_places.specs.Distinct.{is_later_in, is_named_before}
-use Rattle.declared_names.specs.declared.catalogs.Catalog.{Catalog}
-use Rattle.declared_names.specs.Catalogs.{catalog_of}
-use Rattle.declared_names.specs.declared.catalogs.ComponentLists.{ComponentLists}
-use Rattle.declared_names.specs.declared.catalogs.TypeNumber.TheVariants as of
-use Rattle.declared_names.specs.FirstPlaces.{first_places}
-use Rattle.description_places.specs.Forms.{form_of}
-use Rattle.description_places.specs.Keys.{keys_of, needed, optional}
+use Rattle.description_places.specs.declared.catalogs.Catalog.{Catalog}
+use Rattle.description_places.specs.Catalogs.{catalog_of}
+use Rattle.description_places.specs.declared.catalogs.ComponentLists.{ComponentLists}
+use Rattle.description_places.specs.declared.catalogs.TypeNumber.TheVariants as of
+use Rattle.description_places.specs.FirstPlaces.{first_places}
+use Rattle.description_shapes.specs.Forms.{form_of}
+use Rattle.description_shapes.specs.Keys.{keys_of, needed, optional}
 use Rattle.description_places.specs.Owners.{component_of}
 use Rattle.description_places.specs.References.{port_has}
-use Rattle.description_places.specs.Shape.{holds}
-use Rattle.description_places.specs.Spots.{Spot, Level, top, inside, inside_part}
+use Rattle.description_shapes.specs.Shape.{holds}
+use Rattle.description_shapes.specs.Spots.{Spot, Level, top, inside, inside_part}
 use Rattle.plan_definitions.specs.Common.{TypeTable, DisabledInModes, Event, EventKind, Timing, Init, DataReceived, OperationInvoked, CallReturns, ModeSwitchedAck, Port, items_of_port}
 use Rattle.plan_definitions.specs.Common.{names_fit}
 use Rattle.description_types.specs.declared.component.EventKind.TheVariants.{ModeSwitch}

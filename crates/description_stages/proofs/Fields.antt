@@ -1,11 +1,11 @@
 -- What a description that is read keeps, field by field.
 use Rattle.std.proofs.Common.{◌≡◌, map, length, true, ltb, codes, sym, ap, subst, refl}
 use Rattle.serde_json.specs.Data.{Data}
-use Rattle.description_places.specs.declared.kind.Kind.TheVariants as of_kind
-use Rattle.description_places.specs.declared.kind.Kind.TheVariants.{Description as Whole_kind}
-use Rattle.declared_names.specs.Catalogs.{catalog_of}
-use Rattle.description_places.specs.Keys.{needed}
-use Rattle.description_places.specs.Spots.{top, inside}
+use Rattle.description_shapes.specs.declared.kind.Kind.TheVariants as of_kind
+use Rattle.description_shapes.specs.declared.kind.Kind.TheVariants.{Description as Whole_kind}
+use Rattle.description_places.specs.Catalogs.{catalog_of}
+use Rattle.description_shapes.specs.Keys.{needed}
+use Rattle.description_shapes.specs.Spots.{top, inside}
 use Rattle.plan_definitions.specs.Common.{Description, component_fits, composition_fits, IsWellFormed, mapping_fits, prototype_fits, types_fit, Composition, Prototype, PrototypeType}
 use Rattle.plan_definitions.specs.Common.{names_fit, ports_fit}
 use Rattle.declared_names.specs.Names.{position_in, short_names}

@@ -3,18 +3,18 @@ use Rattle.std.proofs.Common.{◌≡◌, ℕ, zero, suc, ◌+◌, List, [], ◌�
 use Rattle.bus_semantics.specs.Common.{list_all, slice_get, and_parts, not-true, list_all-append, none-some, same_Some}
 use Rattle.serde_json.specs.Data.{Data, null, boolean, number, string, array, object, Items, no_items, item, Members}
 use Rattle.serde_json.specs.Find.{get_item, get_member}
-use Rattle.declared_names.specs.declared.catalogs.Catalog.{Catalog}
-use Rattle.description_places.specs.declared.kind.Kind.{Kind}
-use Rattle.description_places.specs.Alternatives.{resolved}
+use Rattle.description_places.specs.declared.catalogs.Catalog.{Catalog}
+use Rattle.description_shapes.specs.declared.kind.Kind.{Kind}
+use Rattle.description_shapes.specs.Alternatives.{resolved}
 use Rattle.description_places.specs.Distinct.{breaks_distinct, is_repeated}
-use Rattle.description_places.specs.Forms.{form_of}
-use Rattle.description_places.specs.Keys.{Key, keys_of}
+use Rattle.description_shapes.specs.Forms.{form_of}
+use Rattle.description_shapes.specs.Keys.{Key, keys_of}
 use Rattle.description_places.specs.References.{breaks_references, is_found}
-use Rattle.description_places.specs.Rules.{breaks_shape, breaks_names}
-use Rattle.description_places.specs.Shape.{has_shape}
-use Rattle.description_places.specs.Spots.{Spot, inside, inside_part}
-use Rattle.description_places.specs.Visits.{Visit, visit_at, visits, items_visits, members_visits, part_of, in_parts, at_key, under_keys}
-use Rattle.description_places.proofs.Walks.{at_key_found, visits_at}
+use Rattle.description_shapes.specs.Rules.{breaks_shape, breaks_names}
+use Rattle.description_shapes.specs.Shape.{has_shape}
+use Rattle.description_shapes.specs.Spots.{Spot, inside, inside_part}
+use Rattle.description_shapes.specs.Visits.{Visit, visit_at, visits, items_visits, members_visits, part_of, in_parts, at_key, under_keys}
+use Rattle.description_shapes.proofs.Walks.{at_key_found, visits_at}
 
 abbrev pub passes : Catalog → Visit → Bool
 passes lists v = not (breaks_shape v) && (not (breaks_names v) && (not (breaks_distinct lists v) && not (breaks_references lists v)))

@@ -5,13 +5,13 @@ use mathlib.Core.List.{map-map}
 use Rattle.serde_json.specs.Data.{Data, null, array, Items}
 use Rattle.serde_json.specs.Events.{items_len}
 use Rattle.serde_json.specs.Find.{as_number, as_u64, get}
-use Rattle.description_places.specs.declared.kind.Kind.TheVariants as of_kind
-use Rattle.description_places.specs.declared.kind.Kind.TheVariants.{Description}
+use Rattle.description_shapes.specs.declared.kind.Kind.TheVariants as of_kind
+use Rattle.description_shapes.specs.declared.kind.Kind.TheVariants.{Description}
 use Rattle.description_places.specs.Distinct.{stands_before}
-use Rattle.declared_names.specs.Catalogs.{catalog_of}
-use Rattle.description_places.specs.Keys.{needed, optional}
-use Rattle.description_places.specs.Shape.{holds, is_within}
-use Rattle.description_places.specs.Spots.{Spot, top, inside, inside_part}
+use Rattle.description_places.specs.Catalogs.{catalog_of}
+use Rattle.description_shapes.specs.Keys.{needed, optional}
+use Rattle.description_shapes.specs.Shape.{holds, is_within}
+use Rattle.description_shapes.specs.Spots.{Spot, top, inside, inside_part}
 use Rattle.plan_definitions.specs.Common.{MappedEvent, Task, TaskMapping, names_fit}
 use Rattle.declared_names.specs.Names.{has_name, position_in, short_names}
 use Rattle.declared_names.specs.Values.{below as under, items_at, listed, number_at, text_at, text_in}

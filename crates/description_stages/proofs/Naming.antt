@@ -5,19 +5,19 @@ use Rattle.bus_semantics.specs.Common.{list_all, list_any, slice_get, option_and
 use Rattle.bus_semantics.specs.Common.{leb-true, le-leb, lt-ltb, ltb-true, bytes_eq-Decides, is_in, same_numbers}
 use Rattle.serde_json.specs.Data.{Data, array, Items, no_items, item}
 use Rattle.serde_json.specs.Find.{as_array, get, get_item}
-use Rattle.declared_names.specs.declared.catalogs.Catalog.{Catalog}
+use Rattle.description_places.specs.declared.catalogs.Catalog.{Catalog}
 use Rattle.declared_names.specs.Names.{position_in}
 use Rattle.declared_names.specs.Values.{items_at, items_of, listed, text_at}
-use Rattle.description_places.specs.declared.kind.Kind.{Kind}
-use Rattle.description_places.specs.Alternatives.{resolved}
+use Rattle.description_shapes.specs.declared.kind.Kind.{Kind}
+use Rattle.description_shapes.specs.Alternatives.{resolved}
 use Rattle.description_places.specs.Distinct.{is_named_before, stands_before}
-use Rattle.description_places.specs.Forms.{form_of}
-use Rattle.description_places.specs.Keys.{Key, keys_of}
-use Rattle.description_places.specs.Names as places
-use Rattle.description_places.specs.Shape as shape
-use Rattle.description_places.specs.Shape.{has_shape}
-use Rattle.description_places.specs.Spots.{Spot, inside, inside_part}
-use Rattle.description_places.specs.Visits.{part_of}
+use Rattle.description_shapes.specs.Forms.{form_of}
+use Rattle.description_shapes.specs.Keys.{Key, keys_of}
+use Rattle.description_shapes.specs.Names as places
+use Rattle.description_shapes.specs.Shape as shape
+use Rattle.description_shapes.specs.Shape.{has_shape}
+use Rattle.description_shapes.specs.Spots.{Spot, inside, inside_part}
+use Rattle.description_shapes.specs.Visits.{part_of}
 use Rattle.bus_semantics.specs.SoundNames as bus
 use Rattle.plan_definitions.specs.WellFormed.{distinct, names_fit}
 use Rattle.plan_definitions.proofs.Lists.{same_numbers_is}

@@ -3,23 +3,23 @@ use Rattle.std.proofs.Common.{◌≡◌, ℕ, List, [], map, length, Bool, true,
 use Rattle.bus_semantics.specs.Common.{slice_get, slice_index_or, option_map, option_map_or, unwrap_or, false≢true, get_or_from_slice_get, none-some, same_Some, slice_get-map}
 use Rattle.serde_json.specs.Data.{Data, null, array, Items}
 use Rattle.serde_json.specs.Find.{get, get_item}
-use Rattle.declared_names.specs.declared.catalogs.ComponentLists.{ComponentLists}
-use Rattle.declared_names.specs.declared.catalogs.TypeNumber.TheVariants as of
+use Rattle.description_places.specs.declared.catalogs.ComponentLists.{ComponentLists}
+use Rattle.description_places.specs.declared.catalogs.TypeNumber.TheVariants as of
 use Rattle.declared_names.specs.declared.scopes.InterfaceNames.{InterfaceNames}
-use Rattle.declared_names.specs.Catalogs.{behavior_lists, catalog_of, component_lists, port_lists}
+use Rattle.description_places.specs.Catalogs.{behavior_lists, catalog_of, component_lists, port_lists}
 use Rattle.declared_names.specs.Components.{component_names, interface_of_port, item_in, position_beyond}
 use Rattle.declared_names.specs.Names.{has_among, has_at, has_name, position_among, position_at, position_in, short_names}
 use Rattle.declared_names.specs.Scopes.{interface_names, type_names}
 use Rattle.declared_names.specs.Values.{items_at, text_at}
-use Rattle.description_places.specs.declared.kind.Kind.TheVariants as of_kind
-use Rattle.description_places.specs.declared.kind.Kind.TheVariants.{Description}
+use Rattle.description_shapes.specs.declared.kind.Kind.TheVariants as of_kind
+use Rattle.description_shapes.specs.declared.kind.Kind.TheVariants.{Description}
 use Rattle.description_places.specs.Around.{type_around}
 use Rattle.description_places.specs.Distinct.{stands_before}
-use Rattle.description_places.specs.Keys.{optional}
+use Rattle.description_shapes.specs.Keys.{optional}
 use Rattle.description_places.specs.Owners.{component_of}
 use Rattle.description_places.specs.References.{type_has}
-use Rattle.description_places.specs.Shape.{holds}
-use Rattle.description_places.specs.Spots.{Spot, Level, top, inside, inside_part}
+use Rattle.description_shapes.specs.Shape.{holds}
+use Rattle.description_shapes.specs.Spots.{Spot, Level, top, inside, inside_part}
 use Rattle.plan_definitions.specs.Common.{TypeTable, Port, items_at as item_number, items_of_port}
 use Rattle.component_model.specs.Ports.{port_reading}
 use Rattle.component_model.specs.Types.{types_reading}

@@ -4,16 +4,16 @@ use Rattle.bus_semantics.specs.Common.{list_all, slice_get, option_and_then, opt
 use mathlib.Core.List.{map-map}
 use Rattle.serde_json.specs.Data.{Data, array, Items}
 use Rattle.serde_json.specs.Find.{as_number, as_u64, get}
-use Rattle.description_places.specs.declared.kind.Kind.{Kind}
-use Rattle.description_places.specs.declared.kind.Kind.TheVariants as of_kind
-use Rattle.description_places.specs.declared.kind.Kind.TheVariants.{Description}
-use Rattle.description_places.specs.Alternatives.{resolved}
-use Rattle.declared_names.specs.declared.catalogs.Catalog.{Catalog}
-use Rattle.declared_names.specs.Catalogs.{catalog_of}
-use Rattle.description_places.specs.Forms.{form_of}
-use Rattle.description_places.specs.Keys.{keys_of, needed, optional}
-use Rattle.description_places.specs.Shape.{holds, is_within}
-use Rattle.description_places.specs.Spots.{Spot, top, inside, inside_part}
+use Rattle.description_shapes.specs.declared.kind.Kind.{Kind}
+use Rattle.description_shapes.specs.declared.kind.Kind.TheVariants as of_kind
+use Rattle.description_shapes.specs.declared.kind.Kind.TheVariants.{Description}
+use Rattle.description_shapes.specs.Alternatives.{resolved}
+use Rattle.description_places.specs.declared.catalogs.Catalog.{Catalog}
+use Rattle.description_places.specs.Catalogs.{catalog_of}
+use Rattle.description_shapes.specs.Forms.{form_of}
+use Rattle.description_shapes.specs.Keys.{keys_of, needed, optional}
+use Rattle.description_shapes.specs.Shape.{holds, is_within}
+use Rattle.description_shapes.specs.Spots.{Spot, top, inside, inside_part}
 use Rattle.plan_definitions.specs.Common.{Interface, SenderReceiver, ClientServer, ModeSwitch, TypeTable, Port, keeps_element, com_spec_fits, item_count, items_at as item_number, names_fit}
 use Rattle.plan_definitions.specs.Common.{port_fits, ports_fit}
 use Rattle.declared_names.specs.declared.scopes.InterfaceNames.{InterfaceNames}

@@ -3,11 +3,11 @@ use Rattle.std.proofs.Common.{◌≡◌, ℕ, zero, suc, ◌+◌, ◌<◌, List,
 use Rattle.bus_semantics.specs.Common.{slice_get, slice_index_or, option_and_then, option_map, false≢true, lt-ltb, ltb-true, slice_get-map, bytes_eq-Decides, length-map}
 use Rattle.serde_json.specs.Data.{Data, null, boolean, number, string, array, object, Items, no_items, item}
 use Rattle.serde_json.specs.Find.{as_array, get, get_item}
-use Rattle.declared_names.specs.FirstPlaces.{first_places}
+use Rattle.description_places.specs.FirstPlaces.{first_places}
 use Rattle.declared_names.specs.Names.{has_name, position_in}
 use Rattle.declared_names.specs.Values.{items_at, items_of, listed}
 use Rattle.description_places.specs.Distinct.{is_later_in, stands_before}
-use Rattle.description_places.specs.Shape.{holds}
+use Rattle.description_shapes.specs.Shape.{holds}
 
 -- a name that is there has a position in each list of as many
 pub low : {X Y : Type 0} (text : X → List ℕ) (f : X → Y) (xs : List X) (name : List ℕ) → has_name (map text xs) name ≡ true → ltb (position_in (map text xs) name) (length (map f xs)) ≡ true

@@ -8,17 +8,17 @@ use Rattle.std.proofs.lemmas.Bool.{cond_both}
 use Rattle.serde_json.specs.Data.{Data, null, boolean, number, string, array, object, Items, no_items, item}
 use Rattle.serde_json.specs.Find.{as_array, as_number, as_str, as_u64, get, get_item}
 use Rattle.runnable_lang.specs.Trees.{in_order}
-use Rattle.description_places.specs.declared.form.Form.TheVariants as form
-use Rattle.description_places.specs.declared.kind.Kind.{Kind}
-use Rattle.description_places.specs.declared.kind.Kind.TheVariants as of_kind
-use Rattle.description_places.specs.Alternatives.{Choice, choices_of, resolved}
-use Rattle.declared_names.specs.declared.catalogs.Catalog.{Catalog}
-use Rattle.description_places.specs.Forms.{form_of}
-use Rattle.description_places.specs.Keys.{optional}
-use Rattle.description_places.specs.Rows.{row_of}
-use Rattle.description_places.specs.Shape.{holds, is_within}
-use Rattle.description_places.specs.Spots.{Spot, inside, inside_part}
-use Rattle.description_places.specs.Visits.{part_of}
+use Rattle.description_shapes.specs.declared.form.Form.TheVariants as form
+use Rattle.description_shapes.specs.declared.kind.Kind.{Kind}
+use Rattle.description_shapes.specs.declared.kind.Kind.TheVariants as of_kind
+use Rattle.description_shapes.specs.Alternatives.{Choice, choices_of, resolved}
+use Rattle.description_places.specs.declared.catalogs.Catalog.{Catalog}
+use Rattle.description_shapes.specs.Forms.{form_of}
+use Rattle.description_shapes.specs.Keys.{optional}
+use Rattle.description_shapes.specs.Rows.{row_of}
+use Rattle.description_shapes.specs.Shape.{holds, is_within}
+use Rattle.description_shapes.specs.Spots.{Spot, inside, inside_part}
+use Rattle.description_shapes.specs.Visits.{part_of}
 use Rattle.declared_names.specs.declared.in_component.ComponentNames.{ComponentNames}
 use Rattle.declared_names.specs.declared.scopes.InterfaceNames.{InterfaceNames}
 use Rattle.declared_names.specs.Names.{Names, position_in}

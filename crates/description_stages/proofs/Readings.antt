@@ -5,7 +5,7 @@ use Rattle.serde_json.specs.Data.{Data, null, boolean, number, string, array, ob
 use Rattle.serde_json.specs.Events.{items_len}
 use Rattle.serde_json.specs.Find.{as_array}
 use Rattle.declared_names.specs.Values.{below, listed}
-use Rattle.description_places.specs.Shape.{holds, is_within, part_count}
+use Rattle.description_shapes.specs.Shape.{holds, is_within, part_count}
 use Rattle.bus_semantics.specs.SoundPlan.{is_in}
 
 pub below_is : (limit other n : ℕ) → n < limit → below limit other (Some n) ≡ n

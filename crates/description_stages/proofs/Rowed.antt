@@ -5,17 +5,17 @@ use Rattle.serde_json.specs.Data.{Data, null, boolean, number, string, array, ob
 use Rattle.serde_json.specs.Events.{items_len}
 use Rattle.serde_json.specs.Find.{as_str, at}
 use Rattle.declared_names.specs.Values.{text_in, text_of_part}
-use Rattle.description_places.specs.declared.form.Form.{Form}
-use Rattle.description_places.specs.declared.form.Form.TheVariants as form
-use Rattle.description_places.specs.declared.kind.Kind.{Kind}
-use Rattle.description_places.specs.declared.kind.Kind.TheVariants as of_kind
-use Rattle.description_places.specs.Alternatives.{Choice, first_word, kind_of, pick, pick_if, resolved}
-use Rattle.declared_names.specs.declared.catalogs.Catalog.{Catalog}
-use Rattle.description_places.specs.Forms.{form_of}
-use Rattle.description_places.specs.Rows.{row_of}
-use Rattle.description_places.specs.Shape.{fits, holds, part_count}
-use Rattle.description_places.specs.Spots.{Spot, inside_part}
-use Rattle.description_places.specs.Visits.{part_of}
+use Rattle.description_shapes.specs.declared.form.Form.{Form}
+use Rattle.description_shapes.specs.declared.form.Form.TheVariants as form
+use Rattle.description_shapes.specs.declared.kind.Kind.{Kind}
+use Rattle.description_shapes.specs.declared.kind.Kind.TheVariants as of_kind
+use Rattle.description_shapes.specs.Alternatives.{Choice, first_word, kind_of, pick, pick_if, resolved}
+use Rattle.description_places.specs.declared.catalogs.Catalog.{Catalog}
+use Rattle.description_shapes.specs.Forms.{form_of}
+use Rattle.description_shapes.specs.Rows.{row_of}
+use Rattle.description_shapes.specs.Shape.{fits, holds, part_count}
+use Rattle.description_shapes.specs.Spots.{Spot, inside_part}
+use Rattle.description_shapes.specs.Visits.{part_of}
 use Rattle.description_stages.proofs.Kept.{Kept, kept_part, shape_here}
 use Rattle.description_stages.proofs.Lists.{IsIn, some_item}
 

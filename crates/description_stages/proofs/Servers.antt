@@ -5,15 +5,15 @@ use Rattle.bus_semantics.specs.Common.{get_or_from_slice_get, none-some, same_So
 use Rattle.std.specs.List.{filter}
 use Rattle.serde_json.specs.Data.{Data, null, array, Items}
 use Rattle.serde_json.specs.Find.{as_array, get, get_item}
-use Rattle.description_places.specs.declared.kind.Kind.TheVariants as of_kind
-use Rattle.description_places.specs.declared.kind.Kind.TheVariants.{Description}
+use Rattle.description_shapes.specs.declared.kind.Kind.TheVariants as of_kind
+use Rattle.description_shapes.specs.declared.kind.Kind.TheVariants.{Description}
 use Rattle.description_places.specs.Around.{number_of}
 use Rattle.description_places.specs.Distinct.{firsts_of_operation, is_later, is_later_in}
-use Rattle.declared_names.specs.declared.catalogs.Catalog.{Catalog}
-use Rattle.declared_names.specs.Catalogs.{catalog_of, firsts_in, operation_firsts}
-use Rattle.declared_names.specs.FirstPlaces.{first_places}
-use Rattle.description_places.specs.Keys.{needed, optional}
-use Rattle.description_places.specs.Spots.{Spot, top, inside, inside_part}
+use Rattle.description_places.specs.declared.catalogs.Catalog.{Catalog}
+use Rattle.description_places.specs.Catalogs.{catalog_of, firsts_in, operation_firsts}
+use Rattle.description_places.specs.FirstPlaces.{first_places}
+use Rattle.description_shapes.specs.Keys.{needed, optional}
+use Rattle.description_shapes.specs.Spots.{Spot, top, inside, inside_part}
 use Rattle.plan_definitions.specs.Common.{DataType, Interface, Operation, TypeTable, has_distinct_codes, is_sound, is_sound_argument, one_word, operations_in, Port, argument_count}
 use Rattle.plan_definitions.specs.Common.{arguments_at, distinct, names_fit}
 use Rattle.declared_names.specs.declared.in_component.ComponentNames.{ComponentNames}

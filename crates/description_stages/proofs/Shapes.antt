@@ -3,11 +3,11 @@ use Rattle.std.proofs.Common.{◌≡◌, Bool, true, false, is_some, refl}
 use Rattle.std.proofs.lemmas.Bool.{false≢true}
 use Rattle.serde_json.specs.Data.{Data, null, boolean, number, string, array, object, Items, Members}
 use Rattle.serde_json.specs.Find.{as_array, as_object}
-use Rattle.description_places.specs.declared.form.Form.{Form}
-use Rattle.description_places.specs.declared.form.Form.TheVariants as form
-use Rattle.description_places.specs.declared.kind.Kind.{Kind}
-use Rattle.description_places.specs.declared.kind.Kind.TheVariants.{DeclaredName}
-use Rattle.description_places.specs.Shape.{fits}
+use Rattle.description_shapes.specs.declared.form.Form.{Form}
+use Rattle.description_shapes.specs.declared.form.Form.TheVariants as form
+use Rattle.description_shapes.specs.declared.kind.Kind.{Kind}
+use Rattle.description_shapes.specs.declared.kind.Kind.TheVariants.{DeclaredName}
+use Rattle.description_shapes.specs.Shape.{fits}
 
 pub on_object : (P : Data → Type 0) → ((ms : Members) → P (object ms)) → (d : Data) → is_some (as_object d) ≡ true → P d
 on_object P f null h = absurd (false≢true h)

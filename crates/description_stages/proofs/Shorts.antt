@@ -4,19 +4,19 @@ use Rattle.bus_semantics.specs.Common.{slice_get, option_and_then, unwrap_or, an
 use Rattle.std.proofs.lemmas.Bool.{not-false}
 use Rattle.serde_json.specs.Data.{Data, null, boolean, number, string, array, object, Members}
 use Rattle.serde_json.specs.Find.{as_str, get, get_member}
-use Rattle.declared_names.specs.declared.catalogs.Catalog.{Catalog}
+use Rattle.description_places.specs.declared.catalogs.Catalog.{Catalog}
 use Rattle.declared_names.specs.Values.{text_at, text_in}
-use Rattle.description_places.specs.declared.form.Form.{Form}
-use Rattle.description_places.specs.declared.form.Form.TheVariants as form
-use Rattle.description_places.specs.declared.kind.Kind.{Kind}
-use Rattle.description_places.specs.declared.kind.Kind.TheVariants.{DeclaredName}
-use Rattle.description_places.specs.Alternatives.{resolved}
+use Rattle.description_shapes.specs.declared.form.Form.{Form}
+use Rattle.description_shapes.specs.declared.form.Form.TheVariants as form
+use Rattle.description_shapes.specs.declared.kind.Kind.{Kind}
+use Rattle.description_shapes.specs.declared.kind.Kind.TheVariants.{DeclaredName}
+use Rattle.description_shapes.specs.Alternatives.{resolved}
 use Rattle.description_places.specs.Distinct.{is_named_before}
-use Rattle.description_places.specs.Forms.{form_of}
-use Rattle.description_places.specs.Keys.{Key, keys_of, needed}
-use Rattle.description_places.specs.Names.{is_name, is_name_form}
-use Rattle.description_places.specs.Shape.{fits, holds, has_needed, has_only}
-use Rattle.description_places.specs.Spots.{Spot, Level, inside}
+use Rattle.description_shapes.specs.Forms.{form_of}
+use Rattle.description_shapes.specs.Keys.{Key, keys_of, needed}
+use Rattle.description_shapes.specs.Names.{is_name, is_name_form}
+use Rattle.description_shapes.specs.Shape.{fits, holds, has_needed, has_only}
+use Rattle.description_shapes.specs.Spots.{Spot, Level, inside}
 use Rattle.description_stages.proofs.Lists.{at_place, list_all_in}
 use Rattle.description_stages.proofs.Kept.{Kept, kept_key, shape_here, name_here, repeated_here}
 use Rattle.description_stages.proofs.Shapes.{is_object, is_short_name, short_kind, object_from_shape, on_object}

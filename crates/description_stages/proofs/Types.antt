@@ -4,17 +4,17 @@ use Rattle.bus_semantics.specs.Common.{list_all, slice_get, option_and_then, unw
 use mathlib.Core.List.{map-map}
 use Rattle.serde_json.specs.Data.{Data, null, boolean, number, string, array, object, Items}
 use Rattle.serde_json.specs.Find.{as_number, as_str, as_u64, get, get_item}
-use Rattle.description_places.specs.declared.kind.Kind.{Kind}
-use Rattle.description_places.specs.declared.kind.Kind.TheVariants as of_kind
-use Rattle.description_places.specs.declared.kind.Kind.TheVariants.{Description}
+use Rattle.description_shapes.specs.declared.kind.Kind.{Kind}
+use Rattle.description_shapes.specs.declared.kind.Kind.TheVariants as of_kind
+use Rattle.description_shapes.specs.declared.kind.Kind.TheVariants.{Description}
 use Rattle.description_places.specs.Distinct.{is_later, is_later_in, stands_before}
-use Rattle.declared_names.specs.declared.catalogs.Catalog.{Catalog}
-use Rattle.declared_names.specs.Catalogs.{catalog_of, mode_firsts}
-use Rattle.declared_names.specs.FirstPlaces.{first_places}
-use Rattle.description_places.specs.Keys.{needed, optional}
-use Rattle.description_places.specs.Names.{is_name}
-use Rattle.description_places.specs.Shape.{holds, is_within, part_count}
-use Rattle.description_places.specs.Spots.{Spot, top, inside, inside_part}
+use Rattle.description_places.specs.declared.catalogs.Catalog.{Catalog}
+use Rattle.description_places.specs.Catalogs.{catalog_of, mode_firsts}
+use Rattle.description_places.specs.FirstPlaces.{first_places}
+use Rattle.description_shapes.specs.Keys.{needed, optional}
+use Rattle.description_shapes.specs.Names.{is_name}
+use Rattle.description_shapes.specs.Shape.{holds, is_within, part_count}
+use Rattle.description_shapes.specs.Spots.{Spot, top, inside, inside_part}
 use Rattle.plan_definitions.specs.Common.{DataType, ApplicationError, DataElement, Interface, Operation, TypeTable, keeps_range, is_sound, operations_in, type_refusal, group_fits, kind_fits}
 use Rattle.plan_definitions.specs.Common.{names_fit, operation_fits, type_fits, types_fit}
 use Rattle.declared_names.specs.Names.{has_name, position_in, short_names, texts}

@@ -5,16 +5,16 @@ use Rattle.std.proofs.lemmas.Bool.{cond_both}
 use Rattle.serde_json.specs.Data.{Data, null, boolean, number, string, array, object}
 use Rattle.serde_json.specs.Find.{as_str}
 use Rattle.declared_names.specs.Values.{text_at}
-use Rattle.description_places.specs.declared.kind.Kind.{Kind}
-use Rattle.description_places.specs.declared.kind.Kind.TheVariants as of_kind
-use Rattle.description_places.specs.Alternatives.{Choice, by_activation, choice, choices_of, kind_of, pick_if, resolved, word_at}
-use Rattle.declared_names.specs.declared.catalogs.Catalog.{Catalog}
-use Rattle.description_places.specs.Forms.{form_of}
-use Rattle.description_places.specs.Keys.{Key, keys_of, needed}
-use Rattle.description_places.specs.Rows.{words_of}
-use Rattle.description_places.specs.Shape.{holds, is_among}
-use Rattle.description_places.specs.Spots.{Spot, inside}
-use Rattle.description_places.specs.Visits.{visit_at, visits, items_visits, members_visits, in_array, in_object}
+use Rattle.description_shapes.specs.declared.kind.Kind.{Kind}
+use Rattle.description_shapes.specs.declared.kind.Kind.TheVariants as of_kind
+use Rattle.description_shapes.specs.Alternatives.{Choice, by_activation, choice, choices_of, kind_of, pick_if, resolved, word_at}
+use Rattle.description_places.specs.declared.catalogs.Catalog.{Catalog}
+use Rattle.description_shapes.specs.Forms.{form_of}
+use Rattle.description_shapes.specs.Keys.{Key, keys_of, needed}
+use Rattle.description_shapes.specs.Rows.{words_of}
+use Rattle.description_shapes.specs.Shape.{holds, is_among}
+use Rattle.description_shapes.specs.Spots.{Spot, inside}
+use Rattle.description_shapes.specs.Visits.{visit_at, visits, items_visits, members_visits, in_array, in_object}
 use Rattle.description_stages.proofs.Shapes.{is_object}
 use Rattle.description_stages.proofs.Kept.{Part, Kept, shape_here}
 use Rattle.description_stages.proofs.Lists.{IsIn}

@@ -3,7 +3,7 @@ use Rattle.std.proofs.Common.{◌≡◌, ℕ, ◌+◌, ◌<◌, Bool, true, fals
 use Rattle.std.proofs.lemmas.List.{at_drop_more, map-append, take_more}
 use Rattle.std.proofs.lemmas.Option.{unwrap_or-slice_get}
 use Rattle.std.specs.List.{list_any}
-use Rattle.description_places.specs.declared.kind.Kind.{Kind}
+use Rattle.description_shapes.specs.declared.kind.Kind.{Kind}
 use Rattle.serde_json.specs.View.{items_view, view}
 use Rattle.serde_json.specs.declared.value.Value.{Value}
 use Rattle.declared_names.specs.Names.{Names, text_of}

@@ -3,11 +3,11 @@ use Rattle.std.proofs.Common.{◌≡◌, ℕ, zero, suc, ◌+◌, ◌^◌, ◌<�
 use Rattle.std.proofs.lemmas.List.{length-append, length-map}
 use Rattle.std.specs.List.{list_any}
 use Rattle.serde_json.specs.Data.{Data, null, boolean, number, string, array, object, Items, no_items, item}
-use Rattle.description_places.specs.Alternatives.{resolved}
-use Rattle.description_places.specs.declared.kind.Kind.{Kind}
-use Rattle.description_places.specs.declared.kind.Kind.TheVariants.{Statements}
-use Rattle.description_places.specs.Forms.{form_of}
-use Rattle.description_places.specs.Visits.{part_of}
+use Rattle.description_shapes.specs.Alternatives.{resolved}
+use Rattle.description_shapes.specs.declared.kind.Kind.{Kind}
+use Rattle.description_shapes.specs.declared.kind.Kind.TheVariants.{Statements}
+use Rattle.description_shapes.specs.Forms.{form_of}
+use Rattle.description_shapes.specs.Visits.{part_of}
 use Rattle.declared_names.specs.Names.{Names, text_of}
 use Rattle.declared_names.specs.Sizes.{size, items_size}
 use Rattle.program_reading.specs.Variables.{added, all_added, among_parts, name_here, names_in, names_in_each}

@@ -2,11 +2,11 @@
 use Rattle.std.specs.Prelude.{ℕ, ◌+◌, List, [], ◌∷◌, ◌++◌, bytes_eq, if◌then◌else◌}
 use Rattle.std.specs.List.{list_any}
 use Rattle.serde_json.specs.Data.{Data, null, boolean, number, string, array, object, Items, no_items, item}
-use Rattle.description_places.specs.Alternatives.{resolved}
-use Rattle.description_places.specs.declared.kind.Kind.{Kind}
-use Rattle.description_places.specs.declared.kind.Kind.TheVariants.{LocalName, Statements}
-use Rattle.description_places.specs.Forms.{form_of}
-use Rattle.description_places.specs.Visits.{part_of}
+use Rattle.description_shapes.specs.Alternatives.{resolved}
+use Rattle.description_shapes.specs.declared.kind.Kind.{Kind}
+use Rattle.description_shapes.specs.declared.kind.Kind.TheVariants.{LocalName, Statements}
+use Rattle.description_shapes.specs.Forms.{form_of}
+use Rattle.description_shapes.specs.Visits.{part_of}
 use Rattle.declared_names.specs.Names.{Names}
 
 -- each name once, in the order of the first places

@@ -12,7 +12,7 @@ use crate::in_program::InProgram;
 use crate::statement_reading::read_body;
 use crate::variables::{Variables, add_all, add_names};
 use declared_names::{InComponent, Positions};
-use description_places::Kind;
+use description_shapes::Kind;
 use rte_text::Memory;
 use runnable_lang::Program;
 use serde_json::Value;

@@ -1,14 +1,14 @@
 //! The variables of a program.
 
 ghost use Rattle.std.specs.Prelude.{◌≡◌, ◌<◌, ◌^◌, [], IfOk, OnOk, length, map, slice_get, unwrap_or};
-ghost use Rattle.description_places.specs.Forms.{form_of};
-ghost use Rattle.description_places.specs.Visits.{part_of};
+ghost use Rattle.description_shapes.specs.Forms.{form_of};
+ghost use Rattle.description_shapes.specs.Visits.{part_of};
 ghost use Rattle.serde_json.specs.View.{items_view, view};
 ghost use Rattle.declared_names.specs.Names.{text_of};
 ghost use Rattle.program_reading.specs.Variables.{added, all_added, in_parts, name_here, names_in, names_in_each};
 
 use declared_names::{Positions, text_in};
-use description_places::{Form, Kind, form_of, resolved, row_of};
+use description_shapes::{Form, Kind, form_of, resolved, row_of};
 use indexmap::IndexSet;
 use rte_text::Memory;
 use serde_json::Value;

@@ -1,12 +1,12 @@
 -- What the description declares, list by list.
 use Rattle.std.proofs.Common.{◌≡◌, ◌%◌, ◌+◌, ℕ, List, [], ◌∷◌, ◌++◌, map, codes, refl, ap, ◌∙◌}
 use Rattle.serde_json.proofs.OnLiterals.{serde_json_on_literals}
-use Rattle.declared_names.specs.declared.catalogs.Catalog.{Catalog}
-use Rattle.declared_names.specs.declared.catalogs.CompositionLists.{CompositionLists}
-use Rattle.declared_names.specs.declared.catalogs.TypeNumber.{TypeNumber}
-use Rattle.declared_names.specs.declared.catalogs.TypeNumber.TheVariants as of
-use Rattle.declared_names.specs.Catalogs.{catalog_of, component_lists, composition_lists, interface_lists, port_lists, prototype_type, type_lists}
-use Rattle.declared_names.specs.FirstPlaces.{first_places, position_text, task_text}
+use Rattle.description_places.specs.declared.catalogs.Catalog.{Catalog}
+use Rattle.description_places.specs.declared.catalogs.CompositionLists.{CompositionLists}
+use Rattle.description_places.specs.declared.catalogs.TypeNumber.{TypeNumber}
+use Rattle.description_places.specs.declared.catalogs.TypeNumber.TheVariants as of
+use Rattle.description_places.specs.Catalogs.{catalog_of, component_lists, composition_lists, interface_lists, port_lists, prototype_type, type_lists}
+use Rattle.description_places.specs.FirstPlaces.{first_places, position_text, task_text}
 use Rattle.declared_names.specs.Names.{Names, short_names}
 use Rattle.declared_names.specs.Values.{items_at, text_at}
 use Rattle.soak_maker.specs.Json.{each}

@@ -3,10 +3,10 @@ use Rattle.std.proofs.Common.{◌≡◌, ◌<◌, ◌≤◌, ◌+◌, ◌%◌, �
 use Rattle.std.proofs.Common.{subst, ◌∙◌, append_assoc, append-nil, arith, eqb-true}
 use Rattle.bus_semantics.specs.Common.{digits, list_any, slice_get, option_map, false_from_ne_true, ltb-true, length-append, slice_get-map}
 use Rattle.serde_json.proofs.OnLiterals.{serde_json_on_literals}
-use Rattle.declared_names.specs.FirstPlaces.{first_places, task_text}
+use Rattle.description_places.specs.FirstPlaces.{first_places, task_text}
 use Rattle.declared_names.specs.Names.{Names, position_in}
 use Rattle.description_places.specs.Distinct.{breaks_distinct, is_later_in}
-use Rattle.description_places.specs.Shape.{holds}
+use Rattle.description_shapes.specs.Shape.{holds}
 use Rattle.soak_maker.specs.Parts.{name}
 use Rattle.soak_maker.proofs.Catalogs.{consumed_text, position_list, produced_text, served_text, soak_catalog}
 use Rattle.soak_maker.proofs.Lists.{AllAt, below_still, both_at, get_first, get_second, get_third, length-many, length-two, many, many_at, two, two_at}

@@ -4,12 +4,13 @@ use Rattle.bus_semantics.specs.Common.{option_or, none-some}
 use Rattle.rte_text.specs.declared.refusal.Refusal.{Refusal}
 use Rattle.rte_text.specs.declared.refusal.Refused.TheVariants.{Rule}
 use Rattle.plan_definitions.specs.Common.{Description, Flat, Join, IsFlatOf, Among, IsAfter, IsOfTasks, mapping_text, IsOfLists, IsOfSize, IsRefusal, IsThen}
-use Rattle.declared_names.specs.Catalogs.{catalog_of}
+use Rattle.description_places.specs.Catalogs.{catalog_of}
 use Rattle.description_places.specs.Distinct.{breaks_distinct}
 use Rattle.description_places.specs.References.{breaks_references}
-use Rattle.description_places.specs.Rules.{Reads, breaks_names, breaks_shape, least_of, visits_of}
+use Rattle.description_shapes.specs.Rules.{breaks_names, breaks_shape, visits_of}
+use Rattle.description_places.specs.Rules.{Reads, least_of}
 use Rattle.description_places.specs.Rules as base
-use Rattle.description_places.specs.Visits.{first_broken}
+use Rattle.description_shapes.specs.Visits.{first_broken}
 use Rattle.component_model.specs.Descriptions.{description_of, reading}
 use Rattle.component_model.specs.Refusals as early
 use Rattle.component_model.specs.Refusals.{IsRead, typed_refusal}

@@ -2,13 +2,13 @@
 use Rattle.std.proofs.Common.{◌≡◌, ◌<◌, ◌≤◌, ◌+◌, ◌%◌, ℕ, zero, suc, true, false, not, ◌||◌, ltb, List, length, codes, Some, refl, ap, ◌∙◌, arith, lt-ltb, mod-lt}
 use Rattle.bus_semantics.specs.Common.{digits, list_any, slice_get}
 use Rattle.serde_json.proofs.OnLiterals.{serde_json_on_literals}
-use Rattle.declared_names.specs.declared.catalogs.TypeNumber.{TypeNumber}
-use Rattle.declared_names.specs.declared.catalogs.TypeNumber.TheVariants as of
+use Rattle.description_places.specs.declared.catalogs.TypeNumber.{TypeNumber}
+use Rattle.description_places.specs.declared.catalogs.TypeNumber.TheVariants as of
 use Rattle.declared_names.specs.Names.{has_name, position_in}
-use Rattle.description_places.specs.declared.kind.Kind.TheVariants as kind
+use Rattle.description_shapes.specs.declared.kind.Kind.TheVariants as kind
 use Rattle.description_places.specs.References.{breaks_references, prototype_has, type_has}
-use Rattle.description_places.specs.Spots.{Spot}
-use Rattle.description_places.specs.Visits.{visits}
+use Rattle.description_shapes.specs.Spots.{Spot}
+use Rattle.description_shapes.specs.Visits.{visits}
 use Rattle.soak_maker.specs.Parts.{assembly, in_task, name, prototype}
 use Rattle.soak_maker.proofs.Catalogs.{in_top, prototype_list, soak_catalog, type_list}
 use Rattle.soak_maker.proofs.Lists.{get_first, get_second, get_third, length-three}

@@ -5,11 +5,11 @@ use Rattle.bus_semantics.specs.Common.{digits, list_any, list_any-append}
 use Rattle.serde_json.specs.Data.{Data, number, string, unsigned}
 use Rattle.serde_json.specs.View.{items_of}
 use Rattle.serde_json.proofs.OnLiterals.{serde_json_on_literals}
-use Rattle.description_places.specs.declared.kind.Kind.{Kind}
-use Rattle.description_places.specs.declared.kind.Kind.TheVariants as kind
-use Rattle.description_places.specs.Rules.{breaks_names, breaks_shape, visits_of}
-use Rattle.description_places.specs.Spots.{Spot, inside, inside_part, top}
-use Rattle.description_places.specs.Visits.{Visit, first_broken, in_parts, items_visits, visit_at, visits}
+use Rattle.description_shapes.specs.declared.kind.Kind.{Kind}
+use Rattle.description_shapes.specs.declared.kind.Kind.TheVariants as kind
+use Rattle.description_shapes.specs.Rules.{breaks_names, breaks_shape, visits_of}
+use Rattle.description_shapes.specs.Spots.{Spot, inside, inside_part, top}
+use Rattle.description_shapes.specs.Visits.{Visit, first_broken, in_parts, items_visits, visit_at, visits}
 use Rattle.soak_maker.specs.Components.{data_types_text, interfaces_text}
 use Rattle.soak_maker.specs.Json.{each, written}
 use Rattle.soak_maker.specs.Soak.{components, compositions, connectors, events, mapping, prototypes, soak_value, tasks}

@@ -1,5 +1,5 @@
 use Rattle.std.proofs.Common.{◌∙◌}
-use Rattle.description_places.proofs.Tables.{text_named}
+use Rattle.description_places.proofs.Named.{text_named}
 use Rattle.description_places.proofs.references.has_text.Goals as goal
 
 pub returns : goal.returns

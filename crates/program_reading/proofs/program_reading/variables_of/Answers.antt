@@ -1,7 +1,7 @@
 use Rattle.std.proofs.Common.{map, length, sym, ap, ◌∙◌}
 use Rattle.std.proofs.lemmas.List.{length-map}
 use Rattle.serde_json.specs.View.{view}
-use Rattle.description_places.specs.declared.kind.Kind.TheVariants.{Statements}
+use Rattle.description_shapes.specs.declared.kind.Kind.TheVariants.{Statements}
 use Rattle.declared_names.specs.Names.{text_of}
 use Rattle.program_reading.specs.Variables.{all_added, names_in}
 use Rattle.program_reading.proofs.Counted.{few_variables}

@@ -1,5 +1,5 @@
-use Rattle.description_places.specs.Forms.{form_of}
-use Rattle.description_places.specs.Visits.{part_of}
+use Rattle.description_shapes.specs.Forms.{form_of}
+use Rattle.description_shapes.specs.Visits.{part_of}
 use Rattle.program_reading.proofs.Added.{part_added}
 use Rattle.program_reading.proofs.variables.+names.Goals as goal
 

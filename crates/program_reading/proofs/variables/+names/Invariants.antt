@@ -1,6 +1,6 @@
 use Rattle.std.proofs.Common.{◌≡◌, drop}
-use Rattle.description_places.specs.Forms.{form_of}
-use Rattle.description_places.specs.Visits.{part_of}
+use Rattle.description_shapes.specs.Forms.{form_of}
+use Rattle.description_shapes.specs.Visits.{part_of}
 use Rattle.serde_json.specs.View.{items_view}
 use Rattle.program_reading.specs.Variables.{all_added, among_parts, in_parts, names_in_each}
 use Rattle.program_reading.proofs.variables.+names.Given as goal

@@ -1,7 +1,0 @@
-use Rattle.std.proofs.Common.{◌≡◌, map, string_bytes, take}
-use Rattle.serde_json.specs.View.{view}
-use Rattle.declared_names.specs.FirstPlaces.{position_text}
-use Rattle.declared_names.proofs.first_places.position_texts.Given as goal
-
-abbrev pub invariant-loop-value : goal.invariant-loop-value
-invariant-loop-value l = map string_bytes l.texts.items ≡ map position_text (map view (take l.value-index l.values))

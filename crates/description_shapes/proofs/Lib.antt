@@ -1,0 +1,4 @@
+pub mod Calculating
+pub mod Members
+pub mod Tables
+pub mod Walks

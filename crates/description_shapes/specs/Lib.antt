@@ -1,0 +1,12 @@
+pub mod Alternatives
+pub mod Calculations
+pub mod Forms
+pub mod Keys
+pub mod Names
+pub mod Rows
+pub mod Rules
+pub mod Shape
+pub mod Skips
+pub mod Spots
+pub mod Trails
+pub mod Visits
