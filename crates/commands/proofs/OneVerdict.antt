@@ -21,7 +21,7 @@ use Rattle.commands.specs.declared.stop.Finding.TheVariants as finding
 use Rattle.commands.specs.CheckCommand.{IsCheckedAs, IsCheckFinding}
 use Rattle.commands.specs.Commands.{Bytes, Command, run, plan, header, soak, check, pair, live}
 use Rattle.commands.specs.Inputs.{HaveBadLine}
-use Rattle.api_header.specs.Headers.{Header, clash, header_of, made, no_component}
+use Rattle.plan_text.specs.Headers.{Header, clash, header_of, made, no_component}
 use Rattle.commands.specs.HeaderCommand.{CanList, HasHeader, IsHeaderFinding}
 use Rattle.commands.specs.LiveCommand.{CanServe, HaveBadStimulus, HaveTooManyCores, IsLiveFinding}
 use Rattle.commands.specs.PairCommand.{AreDescribed, CanPair, HaveBadPairLine, HaveNoLink, IsPairFinding, IsRefusedOf, pair_saying}

@@ -1,7 +1,7 @@
 -- What `header C name` finds and puts: the calls that the code of a component may use (SWS_RTE: 'Contract Phase').
 use Rattle.std.specs.Prelude.{◌≡◌}
 use Rattle.rte_text.specs.declared.refusal.Refused.TheVariants.{Rule}
-use Rattle.api_header.specs.Headers.{Header, clash, header_of, made, no_component}
+use Rattle.plan_text.specs.Headers.{Header, clash, header_of, made, no_component}
 use Rattle.description_stages.specs.declared.planning.PlannedDescription.{PlannedDescription}
 use Rattle.description_stages.specs.Plans.{IsPlanRefusalOf, IsPlannedOf}
 use Rattle.commands.specs.declared.stop.Finding.{Finding}

@@ -4,9 +4,9 @@ use Rattle.bus_semantics.specs.Common.{find, flat_map, same_Some}
 use Rattle.plan_definitions.specs.Common.{TypeTable, Component, Runnable, Description}
 use Rattle.component_model.specs.Descriptions.{description_of}
 use Rattle.component_model.specs.Programs.{component_tree, runnable_tree}
-use Rattle.api_header.specs.Headers.{header_for, header_of, header_with}
-use Rattle.api_header.specs.Listing.{each_once, first_clash, given, given_by}
-use Rattle.api_header.specs.Targets.{Letters}
+use Rattle.plan_text.specs.Headers.{header_for, header_of, header_with}
+use Rattle.plan_text.specs.Listing.{each_once, first_clash, given, given_by}
+use Rattle.plan_text.specs.Targets.{Letters}
 use Rattle.description_stages.proofs.Held.{bare, held_is, held_same, on_each, running}
 
 given_by-again : (types : TypeTable) (c : Component) (r s : Runnable) → runnable_tree r ≡ runnable_tree s → given_by types c r ≡ given_by types c s

@@ -4,7 +4,7 @@ ghost use Rattle.std.specs.Prelude.{◌≡◌, ℕ, List};
 ghost use Rattle.plan_definitions.specs.Common.{Flat, Description, plan_of, is_too_large};
 ghost use Rattle.rte_text.specs.declared.refusal.Refusal.{Refusal};
 ghost use Rattle.rte_text.specs.declared.refusal.Refused.TheVariants.{Rule};
-ghost use Rattle.api_header.specs.Headers.{header_of};
+ghost use Rattle.plan_text.specs.Headers.{header_of};
 ghost use Rattle.description_stages.specs.declared.planning.PlannedDescription.{PlannedDescription};
 ghost use Rattle.description_stages.specs.Plans.{IsPlanRefusalOf, IsPlannedOf};
 ghost use Rattle.description_stages.specs.Same.{IsSamePlan};

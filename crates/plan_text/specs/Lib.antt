@@ -2,3 +2,9 @@ pub mod Beginnings
 pub mod Lines
 pub mod Mapped
 pub mod Texts
+pub mod Calls
+pub mod Clashes
+pub mod Headers
+pub mod Listing
+pub mod Noting
+pub mod Targets

@@ -7,9 +7,9 @@ ghost use Rattle.commands.specs.Commands.{header};
 ghost use Rattle.commands.specs.HeaderCommand.{IsHeaderFinding, SaysHeader};
 ghost use Rattle.commands.specs.Judging.{IsFound};
 
-use api_header::{HeaderMade, header};
 use commands::{Finding, Status, Stop, fetch_all, plan_bytes, put_text, report};
 use description_stages::PlannedDescription;
+use plan_text::{HeaderMade, header};
 use rte_text::{Shelf, Sink};
 use std::alloc::Global;
 

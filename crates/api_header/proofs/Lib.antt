@@ -1,5 +1,0 @@
-pub mod Clashing
-pub mod Entries
-pub mod Names
-pub mod Unseen
-pub mod Walking
