@@ -119,6 +119,7 @@ the serial pass takes its cores from the last on, or one of them twice|core_runt
 a line at rest is closed with `unsettled`|script_run|put_lap|closes|after a pass without an entry the word is `idle`
 a line goes on after 100,000 entries|script_run|put_lap|rises|a line that goes on has made fewer
 a turn in a lane never looks|core_lanes|turn_by_guide|looked|without an entry each look at what is awake said so
+a core leaves after one turn that looks at all of its slots|core_lanes|Stay::note|turns|a turn without an entry counts as one more, whatever it looks at
 a core counts no entry that it made|core_lanes|turn_once|taken|without an entry the core and its bench are as they were
 a round has room for 1,025 entries of a core|core_lanes|run_together|its one clause|each core makes at most 1,024
 an object is acted on whose lock another core has|cross_core_table|act_at|knows|an entry comes only of a try that took the object

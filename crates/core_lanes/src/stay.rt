@@ -13,11 +13,9 @@ ghost use Rattle.core_lanes.specs.Leaving.{Counts, nothing_done};
 use crate::guesses::Guesses;
 use crate::guided::Guided;
 use bus_semantics::BusPlan;
+use core_turn::{goes_on, looks_at_all};
 use cross_core_table::SeatBench;
 use task_machine::TaskSet;
-
-/// In this turn of a row without an entry, counted from 0, a core looks at all: guesses may leave something out.
-const LOOKS_AT_ALL: u32 = 32;
 
 /// What a core did in a round. Nothing changes it but a turn, which counts itself.
 #[derive(Clone, Copy)]
@@ -48,7 +46,7 @@ impl Stay {
         ensures stays { result ≡ true → (self.now.made < 1024) × (self.now.quiet < 64) }
         ensures leaves { result ≡ false → (1024 ≤ self.now.made) ⊎ (64 ≤ self.now.quiet) }
     {
-        self.made < 1024 && self.quiet < 64
+        goes_on(self.made, self.quiet)
     }
 
     /// The core makes a turn at its bench, which is counted. In the 33rd turn of a row without an entry it looks at all of its slots, and
@@ -77,7 +75,7 @@ impl Stay {
         ensures counts { Counts (plan_of p.now) core.old.slots self.old self.new bench.old.view bench.new.view result }
         ensures due { result ≡ false → self.old.quiet ≡ 32 → self.new.whole ≡ true }
     {
-        let all = self.quiet == LOOKS_AT_ALL;
+        let all = looks_at_all(self.quiet);
         let made = core.turn(p, t, bench, guesses, number, all);
         self.note(made, all);
         made

@@ -56,6 +56,7 @@ mod awake_turn;
 mod cores;
 mod guessing;
 mod laws;
+mod limits;
 mod looking;
 mod making;
 mod passed;
@@ -72,6 +73,7 @@ pub use laws::{
     nothing_now_is_rest_of_the_core, resting_cores_are_at_rest, turns_keep_the_law,
     waiters_sleep_on,
 };
+pub use limits::{goes_on, looks_at_all};
 pub use turning::{Turned, turn};
 
 /// There was no memory for what a call makes.
