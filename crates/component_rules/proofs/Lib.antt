@@ -1,4 +1,6 @@
 pub mod Firsts
+pub mod Gathering
+pub mod Tallied
 pub mod Tallying
 pub mod Passing
 pub mod Modes

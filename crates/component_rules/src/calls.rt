@@ -2,6 +2,7 @@
 
 ghost use Rattle.std.specs.Prelude.{◌≡◌, ◌++◌, IfOk, OnOk};
 ghost use Rattle.std.specs.List.{flat_map};
+ghost use Rattle.std.specs.Option.{option_or};
 ghost use Rattle.plan_definitions.specs.Calls.{called_by, left_by, called, left, is_called_once, is_left, access_keeps, event_keeps, mixed_among, mixed_access, mixed_event, mixed};
 
 use crate::tally::Tally;
@@ -84,8 +85,10 @@ impl Calls<'_> {
     fn new(alloc: Global, runnables: &[Runnable]) -> Result<Calls<'_>, Memory>
         ensures { IfOk result (λ calls. calls.runnables.now ≡ runnables.now) }
     {
-        let all = Tally::new(alloc, called(alloc, runnables)?)?;
-        let unwaited = Tally::new(alloc, left(alloc, runnables)?)?;
+        let all = called(alloc, runnables)?;
+        let unwaited = left(alloc, runnables)?;
+        let all = Tally::new(alloc, all)?;
+        let unwaited = Tally::new(alloc, unwaited)?;
         Ok(Calls {
             runnables,
             all,
@@ -159,6 +162,16 @@ impl Calls<'_> {
         }
         None
     }
+
+    /// The first access that breaks the rule, or else the first event.
+    fn first_mixed(&self, events: &[Event]) -> Option<Spot>
+        ensures { result ≡ option_or (mixed_access self.now.runnables.now) (mixed_event self.now.runnables.now events.now) }
+    {
+        match self.mixed_access() {
+            Some(spot) => Some(spot),
+            None => self.mixed_event(events),
+        }
+    }
 }
 
 /// The first access of a component that calls without waiting what another access calls, or takes a result of what nobody calls
@@ -168,8 +181,7 @@ pub fn mixed(alloc: Global, component: &Component) -> Result<Option<Spot>, Memor
 {
     let runnables = component.behavior.runnables.items();
     let calls = Calls::new(alloc, runnables)?;
-    match calls.mixed_access() {
-        Some(spot) => Ok(Some(spot)),
-        None => Ok(calls.mixed_event(component.behavior.events.items())),
-    }
+    let spot = calls.first_mixed(component.behavior.events.items());
+    drop(calls);
+    Ok(spot)
 }

@@ -144,9 +144,13 @@ impl Items<'_> {
         ensures { IfOk result (λ items. items.runnable.now ≡ runnable.now) }
     {
         let accesses = runnable.accesses.items();
-        let all = Tally::new(alloc, listed(alloc, runnable.coherent.items())?)?;
-        let read = Tally::new(alloc, read(alloc, accesses)?)?;
-        let written = Tally::new(alloc, written(alloc, accesses)?)?;
+        // Lists are dropped at less cost than tallies, so they all come first.
+        let all = listed(alloc, runnable.coherent.items())?;
+        let read = read(alloc, accesses)?;
+        let written = written(alloc, accesses)?;
+        let all = Tally::new(alloc, all)?;
+        let read = Tally::new(alloc, read)?;
+        let written = Tally::new(alloc, written)?;
         Ok(Items {
             runnable,
             all,
@@ -196,7 +200,9 @@ fn incoherent_among(
         return Ok(None);
     }
     let items = Items::of(alloc, runnable)?;
-    Ok(items.first_broken(types, component, number))
+    let spot = items.first_broken(types, component, number);
+    drop(items);
+    Ok(spot)
 }
 
 /// The first coherent access list of a component that does not fit: with fewer than 2 or more than 16 items, with an item that

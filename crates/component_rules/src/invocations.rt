@@ -125,7 +125,9 @@ fn first_shared(alloc: Global, component: &Component) -> Result<Option<Spot>, Me
     ensures { IfOk result (λ spot. spot ≡ shared component.now) }
 {
     let tally = Tally::new(alloc, started(alloc, component.behavior.events.items())?)?;
-    Ok(shared(component, &tally))
+    let spot = shared(component, &tally);
+    drop(tally);
+    Ok(spot)
 }
 
 fn first_unserved(
@@ -136,7 +138,9 @@ fn first_unserved(
     ensures { IfOk result (λ spot. spot ≡ unserved types.now component.now) }
 {
     let tally = Tally::new(alloc, invoked(alloc, component.behavior.events.items())?)?;
-    Ok(unserved(types, component, &tally))
+    let spot = unserved(types, component, &tally);
+    drop(tally);
+    Ok(spot)
 }
 
 /// The first port of a component with an operation that does not have exactly one OperationInvokedEvent, or else the first

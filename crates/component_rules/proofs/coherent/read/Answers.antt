@@ -1,0 +1,12 @@
+use Rattle.std.proofs.Common.{[]}
+use Rattle.plan_definitions.specs.Coherent.{read_by}
+use Rattle.component_rules.proofs.Gathering.{all_gathered, gathered_at}
+use Rattle.component_rules.proofs.coherent.read.Goals as goal
+
+pub loop-access-preserved : goal.loop-access-preserved
+loop-access-preserved c =
+    gathered_at c.args.accesses.now c.loop-access.access-index _ c.loop-access-test.true read_by [] c.loop-access.found.items c.note_read.new.found.items
+    c.loop-access.invariant c.in_ok-note_read.ensures
+
+pub returns : goal.returns
+returns c = all_gathered c.args.accesses.now c.loop-access.access-index c.loop-access-test.false read_by [] c.loop-access.found.items c.loop-access.invariant
