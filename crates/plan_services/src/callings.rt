@@ -62,7 +62,6 @@ fn push_runnable(
     push_calls(list, instance, position(number), runnable.accesses.items())
 }
 
-#[tactic(auto, using(plan_definitions::proofs::Turns::from_more, plan_definitions::proofs::Turns::from_none))]
 fn push_runnables(
     list: &mut Vec<Calling>,
     instance: u32,
@@ -102,7 +101,6 @@ fn push_instance(
     }
 }
 
-#[tactic(auto, using(plan_definitions::proofs::Turns::from_more, plan_definitions::proofs::Turns::from_none))]
 fn push_instances(
     list: &mut Vec<Calling>,
     d: &Description,

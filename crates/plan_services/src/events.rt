@@ -94,7 +94,6 @@ fn push_instance(
     }
 }
 
-#[tactic(auto, using(plan_definitions::proofs::Turns::from_more, plan_definitions::proofs::Turns::from_none))]
 fn push_instances(
     list: &mut Vec<EventPlan>,
     alloc: Global,

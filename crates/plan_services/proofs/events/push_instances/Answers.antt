@@ -1,0 +1,20 @@
+use Rattle.std.proofs.Common.{[], ℕ}
+use Rattle.std.specs.List.{slice_get}
+use Rattle.std.specs.Option.{option_map_or}
+use Rattle.description_types.specs.declared.flat.Instance.{Instance}
+use Rattle.plan_definitions.specs.Started.{events_of_component}
+use Rattle.plan_definitions.proofs.Turns.{from_added, from_all}
+use Rattle.plan_services.proofs.events.push_instances.Goals as goal
+
+pub loop-number-preserved : goal.loop-number-preserved
+loop-number-preserved c =
+    let d = c.args.source.now.d.now in
+    let f = c.args.source.now.f.now in
+    from_added (λ (i : ℕ) (x : Instance). option_map_or (events_of_component d f i) (slice_get d.components x.component) []) c.args.instances.now _ _ _ c.loop-number.number _ c.loop-number-test.true
+    c.index-instances-number.is c.in_ok-push_instance.ensures c.loop-number.invariant
+
+pub returns : goal.returns
+returns c =
+    let d = c.args.source.now.d.now in
+    let f = c.args.source.now.f.now in
+    from_all (λ (i : ℕ) (x : Instance). option_map_or (events_of_component d f i) (slice_get d.components x.component) []) c.args.instances.now _ _ c.loop-number.number c.loop-number-test.false c.loop-number.invariant
