@@ -1,6 +1,7 @@
 pub mod Answered
 pub mod Apart
 pub mod Asking
+mod ByForm
 pub mod Carrying
 pub mod Causes
 pub mod Indexed

@@ -1,11 +1,11 @@
 //! A plan with what its environment has, by name.
 
-ghost use Rattle.std.specs.Prelude.{◌≡◌, IfOk, OnOk, option_copied, true};
+ghost use Rattle.std.specs.Prelude.{◌≡◌, ◌<◌, [], ◌∷◌, ◌++◌, IfOk, List, OnOk, length, option_copied, true};
 ghost use Rattle.bus_semantics.specs.Common.{list_all, plan_of};
-ghost use Rattle.script_reading.specs.Index.{IsIndex, IsNoted, has_few_modes};
+ghost use Rattle.script_reading.specs.Index.{AreIndexes, HasIndexes, IsIndex, IsNoted, has_few_modes, place_of};
 ghost use Rattle.script_reading.specs.Numbers.{IsNumbered};
 ghost use Rattle.script_reading.specs.Offers.{mode_in, mode_of, number_of};
-ghost use Rattle.script_reading.specs.declared.forms.Form.TheVariants.{Ask, Read, Receive, SeeMode, Send, Switch, Write};
+ghost use Rattle.script_reading.specs.declared.forms.Form.{Form};
 
 use crate::forms::Form;
 use crate::offers::{how_many, offered};
@@ -14,33 +14,33 @@ use indexmap::IndexMap;
 use rte_text::Memory;
 use std::alloc::Global;
 
-/// The elements of the environment by name, found by hash.
-#[derive(Drop)]
-struct Elements<'p> {
-    plan: &'p BusPlan,
-    written: IndexMap<&'p [u8], u32>,
-    sent: IndexMap<&'p [u8], u32>,
-    read: IndexMap<&'p [u8], u32>,
-    received: IndexMap<&'p [u8], u32>,
-    ghost written_known: { IsIndex Write (plan_of plan.now) written },
-    ghost sent_known: { IsIndex Send (plan_of plan.now) sent },
-    ghost read_known: { IsIndex Read (plan_of plan.now) read },
-    ghost received_known: { IsIndex Receive (plan_of plan.now) received },
-}
-
 /// A plan with what its environment has by name, found by hash.
 #[derive(Drop)]
 pub struct Environment<'p> {
     pub plan: &'p BusPlan,
-    elements: Elements<'p>,
-    points: IndexMap<&'p [u8], u32>,
-    machines: IndexMap<&'p [u8], u32>,
-    mode_ports: IndexMap<&'p [u8], u32>,
+    /// What the forms are for, a map for each place of `place_of`. They are in one list, which is dropped by one call, where seven fields are
+    /// dropped one by one at each way out.
+    by_form: Vec<IndexMap<&'p [u8], u32>>,
     ghost few_modes: { list_all has_few_modes plan.now.machines ≡ true },
-    ghost of_plan: { elements.plan.now ≡ plan.now },
-    ghost points_known: { IsIndex Ask (plan_of plan.now) points },
-    ghost machines_known: { IsIndex Switch (plan_of plan.now) machines },
-    ghost mode_ports_known: { IsIndex SeeMode (plan_of plan.now) mode_ports },
+    ghost all_forms: { length by_form.items ≡ 7 },
+    ghost known: { HasIndexes (plan_of plan.now) by_form.items },
+}
+
+/// Where the map of what a form is for stands among them. `result` is for the points of `ask`.
+fn place_of(form: Form) -> usize
+    ensures place { result ≡ place_of form }
+    ensures few { result < 7 }
+{
+    match form {
+        Form::Write => 0,
+        Form::Send => 1,
+        Form::Read => 2,
+        Form::Receive => 3,
+        Form::Ask => 4,
+        Form::TakeResult => 4,
+        Form::Switch => 5,
+        Form::SeeMode => 6,
+    }
 }
 
 /// Puts the number into the index under the name, if there is one.
@@ -88,23 +88,40 @@ fn mode_in(machine: &MachinePlan, name: &[u8]) -> Option<u32>
     None
 }
 
-impl<'p> Elements<'p> {
-    fn of(alloc: Global, plan: &'p BusPlan) -> Result<Elements<'p>, Memory>
-        requires { IsNumbered (plan_of plan.now) }
-        ensures { IfOk result (λ elements. elements.plan.now ≡ plan.now) }
-    {
-        let written = index_of(alloc, plan, Form::Write)?;
-        let sent = index_of(alloc, plan, Form::Send)?;
-        let read = index_of(alloc, plan, Form::Read)?;
-        let received = index_of(alloc, plan, Form::Receive)?;
-        Ok(Elements {
-            plan,
-            written,
-            sent,
-            read,
-            received,
-        })
-    }
+/// Adds the map of what the form is for behind those of other forms.
+fn add_index<'p>(
+    alloc: Global,
+    plan: &'p BusPlan,
+    form: Form,
+    indexes: &mut Vec<IndexMap<&'p [u8], u32>>,
+) -> Result<(), Memory>
+    requires { IsNumbered (plan_of plan.now) }
+    ensures { OnOk result ((fs : List Form) → AreIndexes (plan_of plan.now) fs indexes.old.items → AreIndexes (plan_of plan.now) (fs ++ form ∷ []) indexes.new.items) }
+{
+    let index = index_of(alloc, plan, form)?;
+    indexes.push(index)?;
+    Ok(())
+}
+
+/// Adds the maps of what all forms are for to none.
+fn add_indexes<'p>(
+    alloc: Global,
+    plan: &'p BusPlan,
+    indexes: &mut Vec<IndexMap<&'p [u8], u32>>,
+) -> Result<(), Memory>
+    requires numbered { IsNumbered (plan_of plan.now) }
+    requires none { indexes.old.items ≡ [] }
+    ensures all_forms { OnOk result (length indexes.new.items ≡ 7) }
+    ensures known { OnOk result (HasIndexes (plan_of plan.now) indexes.new.items) }
+{
+    add_index(alloc, plan, Form::Write, indexes)?;
+    add_index(alloc, plan, Form::Send, indexes)?;
+    add_index(alloc, plan, Form::Read, indexes)?;
+    add_index(alloc, plan, Form::Receive, indexes)?;
+    add_index(alloc, plan, Form::Ask, indexes)?;
+    add_index(alloc, plan, Form::Switch, indexes)?;
+    add_index(alloc, plan, Form::SeeMode, indexes)?;
+    Ok(())
 }
 
 impl<'p> Environment<'p> {
@@ -113,34 +130,30 @@ impl<'p> Environment<'p> {
         requires { IsNumbered (plan_of plan.now) }
         ensures { IfOk result (λ environment. environment.plan.now ≡ plan.now) }
     {
-        let elements = Elements::of(alloc, plan)?;
-        let points = index_of(alloc, plan, Form::Ask)?;
-        let machines = index_of(alloc, plan, Form::Switch)?;
-        let mode_ports = index_of(alloc, plan, Form::SeeMode)?;
-        Ok(Environment {
-            plan,
-            elements,
-            points,
-            machines,
-            mode_ports,
-        })
+        let mut by_form = Vec::with_capacity(alloc, 7)?;
+        match add_indexes(alloc, plan, &mut by_form) {
+            Ok(()) => Ok(Environment { plan, by_form }),
+            Err(memory) => {
+                drop(by_form);
+                Err(memory)
+            }
+        }
+    }
+
+    /// The map of what the form is for.
+    fn index_for(&self, form: Form) -> &IndexMap<&'p [u8], u32>
+        ensures { IsIndex form (plan_of self.now.plan.now) result.now }
+    {
+        &self.by_form[place_of(form)]
     }
 
     /// The number of the first thing that the form is for and that goes by this name.
     pub fn find(&self, form: Form, name: &[u8]) -> Option<u32>
         ensures { result ≡ number_of form (plan_of self.now.plan.now) name.now }
     {
-        match form {
-            Form::Write => self.elements.written.get(name).copied(),
-            Form::Send => self.elements.sent.get(name).copied(),
-            Form::Read => self.elements.read.get(name).copied(),
-            Form::Receive => self.elements.received.get(name).copied(),
-            Form::Ask => self.points.get(name).copied(),
-            Form::TakeResult => self.points.get(name).copied(),
-            Form::Switch => self.machines.get(name).copied(),
-            Form::SeeMode => self.mode_ports.get(name).copied(),
-        }
+        self.index_for(form).get(name).copied()
     }
+
     /// The number of the first mode of the machine of this number that has the name.
     pub fn mode(&self, machine: u32, name: &[u8]) -> Option<u32>
         ensures { result ≡ mode_of (plan_of self.now.plan.now) machine name.now }
