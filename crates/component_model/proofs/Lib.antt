@@ -1,3 +1,4 @@
 mod Few
 mod Firsts
+mod Judged
 mod Lists

@@ -9,6 +9,7 @@ use Rattle.description_places.specs.Catalogs.{catalog_of}
 use Rattle.description_places.specs.declared.catalogs.Catalog.{Catalog}
 use Rattle.description_places.specs.Distinct.{breaks_distinct}
 use Rattle.description_places.specs.References.{breaks_references}
+use Rattle.description_shapes.specs.Rules.{breaks_names, breaks_shape, visits_of}
 use Rattle.description_shapes.specs.Visits.{first_broken}
 
 -- Rule 4: what a list declares has distinct names; the place is the second one. Lists of names that refer declare none.
