@@ -3,7 +3,7 @@ use Rattle.std.proofs.Common.{◌≡◌, true, not, ◌==◌, [], ◌++◌, code
 use Rattle.bus_semantics.specs.Common.{and_parts, false≢true, append-nil, list_all-append, Letters, header}
 use Rattle.bus_semantics.specs.declared.version.Version.{Version}
 use Rattle.bus_semantics.specs.declared.version.Version.TheVariants.{One, Two}
-use Rattle.trace_reading.proofs.Cuts.{cut}
+use Rattle.trace_reading.proofs.TextCuts.{cut}
 use Rattle.trace_reading.specs.Reads.{IsOneLine}
 use Rattle.trace_check.specs.FirstLines.{Ends, IsFirstLine, is_unbroken}
 

@@ -18,5 +18,5 @@ pub mod Visible
 mod Marks
 pub mod Clauses
 mod Accepted
-pub mod Cuts
+pub mod TextCuts
 mod Reached

@@ -9,7 +9,7 @@ use Rattle.trace_reading.specs.declared.checked.Checked.TheVariants.{Legal, BadL
 use Rattle.trace_reading.specs.Refusals.{IsRefused}
 use Rattle.trace_reading.specs.Verdicts.{GoesOn, IsVerdict, line_after}
 use Rattle.trace_reading.proofs.Accepted.{was_accepted, not_both, one_clause}
-use Rattle.trace_reading.proofs.Cuts.{texts, onto, oldest, onto-append, onto-oldest, spelt, all_oldest, level, first_longer, second_longer, same_line, some_text, compare, one_and_two}
+use Rattle.trace_reading.proofs.TextCuts.{texts, onto, oldest, onto-append, onto-oldest, spelt, all_oldest, level, first_longer, second_longer, same_line, some_text, compare, one_and_two}
 
 -- ---- a beginning of a begun run is one
 
