@@ -36,7 +36,9 @@ def doubled(tree: Tree) -> list[str]:
     stated: dict[str, dict[str, str]] = defaultdict(dict)
     for path in tree.lemma_files():
         for name, statement in statements(tree.lines[path]):
-            stated[same_names(statement)].setdefault(crate_of(path), f"{path} {name}")
+            same = same_names(statement)
+            if says_something(same):
+                stated[same].setdefault(crate_of(path), f"{path} {name}")
     return ["; ".join(places.values()) for places in stated.values() if len(places) > 1]
 
 
@@ -79,6 +81,12 @@ def same_names(statement: str) -> str:
         bound += [name for name in re.findall(r"[^\W\d][\w']*", group.group(1) or group.group(2)) if name not in bound]
     numbers = {name: f"#{number}" for number, name in enumerate(bound)}
     return re.sub(r"(?<![\w.])[^\W\d][\w']*", lambda name: numbers.get(name.group(), name.group()), text)
+
+
+def says_something(statement: str) -> bool:
+    """Whether this is a statement, of two sides or of some value, and no kind of thing such as `List ℕ` or `Plan → Type 0`."""
+    result = statement.rpartition("→")[2]
+    return re.search(r"[≡≢≤<⊎⊥]", statement) is not None or re.search(r"(?<![\w.])(#\d|[a-z])", result) is not None
 
 
 # ---- named by no file
@@ -177,7 +185,7 @@ def module_of(path: str, lines: list[str]) -> Module:
 
 def take_import(module: Module, line: str) -> bool:
     """Notes what a `use` gives; whether the line is one."""
-    use = re.match(r"^(pub )?use ([^\s{]+?)(?:\.\{(.*)\}| as (\S+))?$", line)
+    use = re.match(r"^(?:unfoldable )?(pub )?use ([^\s{]+?)(?:\.\{(.*)\}| as (\S+))?$", line)
     if not use:
         return False
     is_public, source, names, alias = use.groups()
@@ -232,7 +240,7 @@ def add_uses(module: Module, lines: list[str], uses: dict[Node, set[Node]]) -> N
         if is_spec or module.is_answers or name.endswith("-Decides") or "◌" in name or MARKERS.search(body):
             uses[ROOT].add(node)
         rest[begin:end] = [""] * (end - begin)
-    between = "\n".join(line for line in rest if not line.startswith(("use ", "pub use ")))
+    between = "\n".join(line for line in rest if not line.startswith(("use ", "pub use ", "unfoldable pub use ")))
     uses[ROOT] |= cited_by(module, COMMENT.sub("", between)) | set(module.given)
     if module.is_answers:
         uses[ROOT] |= set(module.taken.values())

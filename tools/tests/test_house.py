@@ -57,9 +57,13 @@ below m = zero m
 -- named nowhere
 lost : (n : ℕ) → n ≡ n
 lost n = below n
+
+-- a kind of things, as others are
+abbrev Like : ℕ → Type 0
+Like n = n ≡ n
 """
 ANSWERS = "use Rattle.one.proofs.Lemmas.{kept}\n\ngoal = kept 1\n"
-AGAIN = "again : (k : ℕ) → k + 0 ≡ k\nagain k = zero k\n"
+AGAIN = "again : (k : ℕ) → k + 0 ≡ k\nagain k = zero k\n\nabbrev Kind : ℕ → Type 0\nKind n = n ≡ n\n"
 
 
 class House(WithFolder):
@@ -95,12 +99,11 @@ class House(WithFolder):
 
     def test_lemmas(self) -> None:
         self.assertEqual(self.places("statements in several crates"), ["crates/one/proofs/Lemmas.antt below; crates/two/proofs/Again.antt again"])
-        self.assertEqual(self.places("lemmas that no file names"), ["crates/one/proofs/Lemmas.antt:12 lost", "crates/two/proofs/Again.antt:1 again"])
-        self.assertEqual(
-            self.places("lemmas that nothing reaches"),
-            ["crates/one/proofs/Lemmas.antt:8 below", "crates/one/proofs/Lemmas.antt:12 lost", "crates/two/proofs/Again.antt:1 again"],
-        )
-        self.assertEqual(self.places("lemma files under 30 lines"), ["crates/one/proofs/Lemmas.antt 13", "crates/two/proofs/Again.antt 2"])
+        named_nowhere = ["crates/one/proofs/Lemmas.antt:12 lost", "crates/one/proofs/Lemmas.antt:16 Like"]
+        others = ["crates/two/proofs/Again.antt:1 again", "crates/two/proofs/Again.antt:4 Kind"]
+        self.assertEqual(self.places("lemmas that no file names"), named_nowhere + others)
+        self.assertEqual(self.places("lemmas that nothing reaches"), ["crates/one/proofs/Lemmas.antt:8 below", *named_nowhere, *others])
+        self.assertEqual(self.places("lemma files under 30 lines"), ["crates/one/proofs/Lemmas.antt 17", "crates/two/proofs/Again.antt 5"])
 
 
 class Figures(unittest.TestCase):
