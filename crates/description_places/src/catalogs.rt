@@ -235,9 +235,9 @@ fn port_lists<'a>(
     ensures { IfOk result (λ lists. lists ≡ port_lists interfaces.now (view value.now)) }
 {
     let ports = items_at(value, "ports");
-    let names = named(alloc, ports)?;
     let interfaces = interfaces_of(alloc, interfaces, ports)?;
     let com_specs = com_spec_firsts(alloc, ports)?;
+    let names = named(alloc, ports)?;
     Ok(PortLists {
         names,
         interfaces,
@@ -266,11 +266,11 @@ fn behavior_lists<'a>(alloc: Global, value: &'a Value) -> Result<BehaviorLists<'
 {
     let variables = inner_items(value, "behavior", "variables");
     let listed = inner_items(value, "behavior", "runnables");
+    let accesses = access_firsts(alloc, listed)?;
+    let events = event_firsts(alloc, value)?;
     let areas = areas_of(alloc, value)?;
     let variables = named(alloc, variables)?;
     let runnables = named(alloc, listed)?;
-    let accesses = access_firsts(alloc, listed)?;
-    let events = event_firsts(alloc, value)?;
     Ok(BehaviorLists {
         areas,
         variables,
@@ -351,9 +351,9 @@ fn composition_lists<'a>(
         lists ≡ composition_lists known.now.interfaces.now known.now.components.now known.now.compositions.now (view value.now)) }
 {
     let listed = items_at(value, "prototypes");
-    let ports = port_lists(alloc, known.interfaces, value)?;
-    let prototypes = named(alloc, listed)?;
     let types = types_of(alloc, known.components, known.compositions, listed)?;
+    let prototypes = named(alloc, listed)?;
+    let ports = port_lists(alloc, known.interfaces, value)?;
     Ok(CompositionLists {
         ports,
         prototypes,
@@ -381,9 +381,9 @@ fn type_lists<'a>(alloc: Global, value: &'a Value) -> Result<TypeLists<'a>, Memo
     ensures { IfOk result (λ lists. lists ≡ type_lists (view value.now)) }
 {
     let groups = items_at(value, "modeGroups");
+    let modes = mode_firsts(alloc, groups)?;
     let data_types = named(alloc, items_at(value, "dataTypes"))?;
     let mode_groups = named(alloc, groups)?;
-    let modes = mode_firsts(alloc, groups)?;
     Ok(TypeLists {
         data_types,
         mode_groups,
@@ -395,10 +395,10 @@ fn interface_lists<'a>(alloc: Global, value: &'a Value) -> Result<InterfaceLists
     ensures { IfOk result (λ lists. lists ≡ interface_lists (view value.now)) }
 {
     let listed = items_at(value, "interfaces");
-    let names = named(alloc, listed)?;
-    let items = items(alloc, listed)?;
     let arguments = interface_firsts(alloc, listed, "arguments")?;
     let errors = interface_firsts(alloc, listed, "errors")?;
+    let names = named(alloc, listed)?;
+    let items = items(alloc, listed)?;
     Ok(InterfaceLists {
         names,
         items,
@@ -445,10 +445,10 @@ fn mapping_lists<'a>(alloc: Global, value: &'a Value) -> Result<MappingLists<'a>
 pub fn catalog_of<'a>(alloc: Global, value: &'a Value) -> Result<Catalog<'a>, Memory>
     ensures { IfOk result (λ catalog. catalog ≡ catalog_of (view value.now)) }
 {
+    let mapping = mapping_lists(alloc, value)?;
     let types = type_lists(alloc, value)?;
     let interfaces = interface_lists(alloc, value)?;
     let prototypes = prototype_lists(alloc, &interfaces.names, value)?;
-    let mapping = mapping_lists(alloc, value)?;
     Ok(Catalog {
         types,
         interfaces,

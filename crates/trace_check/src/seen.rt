@@ -16,10 +16,14 @@ struct Seen<'t> {
     event: u32,
 }
 
+/// How many places there are for an actor, from that of its text on.
+const NEAR: usize = 8;
+
 /// The actors that were seen.
 #[derive(Drop)]
 pub(crate) struct Actors<'t> {
-    /// Each at the place of its text. Of two with one place the later one is kept.
+    /// Each at the place of its text, or at one of those behind it if others came first. If all of them are taken, a later one stands at the
+    /// place of its text.
     seen: Vec<Seen<'t>>,
     /// The place of the last one.
     last: usize,
@@ -85,6 +89,7 @@ impl<'t> Actors<'t> {
         add_places(&mut seen, p.runnables.len())?;
         add_places(&mut seen, p.points.len())?;
         add_places(&mut seen, p.machines.len())?;
+        add_places(&mut seen, NEAR / 2)?;
         let next = itself(alloc, p.events.len())?;
         Ok(Actors {
             seen,
@@ -96,10 +101,44 @@ impl<'t> Actors<'t> {
 
     /// The place of an actor's text.
     fn place_of(&self, who: &[u8]) -> usize {
-        match number_of(who).checked_rem(self.seen.len()) {
+        match number_of(who).checked_rem(self.seen.len().saturating_sub(NEAR)) {
             Some(place) => place,
             None => 0,
         }
+    }
+
+    /// Whether nobody was seen at this place.
+    fn is_free(&self, place: usize) -> bool {
+        match self.seen.get(place) {
+            Some(seen) => seen.who.is_empty(),
+            None => false,
+        }
+    }
+
+    /// The first free place for an actor's text, or its own if there is none.
+    fn free_place(&self, who: &[u8]) -> usize {
+        let place = self.place_of(who);
+        for near in 0..NEAR {
+            let at = place.saturating_add(near);
+            if self.is_free(at) {
+                return at;
+            }
+        }
+        place
+    }
+
+    /// The place of the line's actor, from this one on, and what stands behind the actor's text.
+    fn place_from<'l>(&self, place: usize, line: &'l [u8]) -> Option<(usize, &'l [u8])> {
+        for near in 0..NEAR {
+            let at = place.saturating_add(near);
+            if let Some(rest) = self.rest_at(at, line) {
+                return Some((at, rest));
+            }
+            if self.is_free(at) {
+                return None;
+            }
+        }
+        None
     }
 
     /// What stands behind the text of the actor at this place, if the line is that actor's.
@@ -119,11 +158,7 @@ impl<'t> Actors<'t> {
         if let Some(rest) = self.rest_at(self.last, line) {
             return Some((self.last, rest));
         }
-        let place = self.place_of(who_of(line));
-        match self.rest_at(place, line) {
-            Some(rest) => Some((place, rest)),
-            None => None,
-        }
+        self.place_from(self.place_of(who_of(line)), line)
     }
 
     /// The actor whose line the text begins with, if it was seen, and what stands behind the actor's text. It is the last one then.
@@ -165,7 +200,7 @@ impl<'t> Actors<'t> {
 
     /// Another actor comes, with this text.
     fn turn_to(&mut self, who: &'t [u8], actor: Actor) {
-        self.last = self.place_of(who);
+        self.last = self.free_place(who);
         if let Some(seen) = self.seen.get_mut(self.last) {
             seen.who = who;
             seen.actor = actor;
