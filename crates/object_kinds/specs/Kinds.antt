@@ -6,6 +6,8 @@ use Rattle.bus_laws.specs.Common.{Actor, Act, Deed, Entry}
 use Rattle.bus_semantics.specs.Common.{Plan, Noted, Past, touches, is_proper, Wanted, to_start, wanted_by, answer_fits, plain_key, event_of, noted_for, Follows, IsPastOf}
 use Rattle.object_kinds.specs.declared.acted.Acted.{Acted}
 use Rattle.object_kinds.specs.declared.acted.Acted.TheVariants.{Done, NotYet}
+use Rattle.object_kinds.specs.declared.acted.Filled.{Filled}
+use Rattle.object_kinds.specs.declared.acted.Filled.TheVariants as filled
 use Rattle.object_kinds.specs.declared.acted.Shown.{Shown}
 
 -- ---- what an object stands for
@@ -66,3 +68,8 @@ pub record IsHeldBy {K : Type 0} (lead : K → Noted → Option K) (may_start : 
 abbrev pub IsAnswerOf : {K : Type 0} → Plan → (lead : K → Noted → Option K) → (may_start : K → ℕ → Bool) → (why : K → Wanted → Shown) → Actor → Wanted → (old new : K) → Acted → Type 0
 IsAnswerOf p lead may_start why a w old new (Done e) = IsMadeBy p lead a w old new e
 IsAnswerOf p lead may_start why a w old new (NotYet shown) = (shown ≡ why old w) × (new ≡ old) × IsHeldBy lead may_start a w old
+
+-- what came of a wish, with the entry that was filled in
+abbrev pub acted : Filled → Entry → Acted
+acted filled.Done e = Done e
+acted (filled.NotYet shown) e = NotYet shown

@@ -12,8 +12,17 @@ pub enum Acted {
     NotYet(Shown),
 }
 
-/// Why no entry of a wish may come.
+/// What came of a wish, whose entry is filled in where it is to lie: an answer that holds an entry is copied at each call that it passes.
 #[derive(Drop)]
+pub enum Filled {
+    /// The entry was made, and filled in.
+    Done,
+    /// No entry of the wish may come, and why. What was filled in is no entry.
+    NotYet(Shown),
+}
+
+/// Why no entry of a wish may come.
+#[derive(Clone, Copy)]
 pub enum Shown {
     /// The event is not pending.
     NotDue(u32),

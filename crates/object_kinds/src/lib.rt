@@ -28,7 +28,7 @@ mod acted;
 mod places;
 mod waiting;
 
-pub use acted::{Acted, Shown};
+pub use acted::{Acted, Filled, Shown};
 pub use places::find;
 pub use waiting::{append_to, bundle_events, empty_lists, take_list};
 
