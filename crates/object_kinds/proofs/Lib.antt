@@ -12,3 +12,4 @@ pub mod Numbers
 pub mod Classes
 pub mod Touching
 pub mod Alone
+pub mod Filling
