@@ -2,14 +2,14 @@
 
 ghost use Rattle.std.specs.Prelude.{◌≡◌, ℕ};
 ghost use Rattle.bus_semantics.specs.Common.{Plan, to_enter, to_leave, wanted_of};
-ghost use Rattle.object_kinds.specs.Kinds.{IsAnswerOf};
+ghost use Rattle.object_kinds.specs.Common.{IsAnswerOf, acted};
 ghost use Rattle.area_objects.specs.Kept.{opening, may_start};
 ghost use Rattle.area_objects.specs.Leading.{lead, why_held};
 ghost use Rattle.area_objects.specs.Plans.{IsOfPlan};
 
 use crate::held::{Area, Entered};
 use bus_semantics::{Actor, Deed, Entry, Wish};
-use object_kinds::{Acted, Shown};
+use object_kinds::{Filled, Shown};
 use std::marker::Model;
 
 /// An exclusive area of one component instance (SWS_RTE: Rte_Enter, Rte_Exit), seen as the activation that is in it.
@@ -34,51 +34,55 @@ impl AreaObject {
         AreaObject { area: Area::new() }
     }
 
-    /// Makes the entry of a wish on the area, if one may come: an activation enters it if nobody is in it, and leaves it if it
-    /// is in it itself (SWS_RTE: Rte_Enter, Rte_Exit). It takes no memory. `NotYet` changes nothing; for an Enter it names the
-    /// activation that is in the area.
-    pub fn act(&mut self, who: &Actor, wish: &Wish) -> Acted
+    /// Makes the entry of a wish on the area, if one may come, and fills it in at `out`: an activation enters the area if nobody is in
+    /// it, and leaves it if it is in it itself (SWS_RTE: Rte_Enter, Rte_Exit). It takes no memory. `NotYet` changes nothing of the
+    /// area; for an Enter it names the activation that is in it.
+    pub fn act(&mut self, who: &Actor, wish: &Wish, out: &mut Entry) -> Filled
         ensures planned { (p : Plan) (object : ℕ) → IsOfPlan p object self.old → IsOfPlan p object self.new }
-        ensures answer { (p : Plan) → IsAnswerOf p lead may_start why_held who.now (wanted_of wish.now) self.old self.new result }
+        ensures answer { (p : Plan) → IsAnswerOf p lead may_start why_held who.now (wanted_of wish.now) self.old self.new (acted result out.new) }
     {
         match wish {
-            Wish::Enter { area } => self.enter(who, *area),
-            Wish::Leave { area } => self.leave(who, *area),
-            _ => Acted::NotYet(Shown::Unmatched),
+            Wish::Enter { area } => self.enter(who, *area, out),
+            Wish::Leave { area } => self.leave(who, *area, out),
+            _ => Filled::NotYet(Shown::Unmatched),
         }
     }
 
     /// Enters the area.
-    fn enter(&mut self, who: &Actor, area: u32) -> Acted
-        ensures { (p : Plan) → IsAnswerOf p lead may_start why_held who.now (to_enter area) self.old self.new result }
+    fn enter(&mut self, who: &Actor, area: u32, out: &mut Entry) -> Filled
+        ensures { (p : Plan) → IsAnswerOf p lead may_start why_held who.now (to_enter area) self.old self.new (acted result out.new) }
     {
         match who {
             Actor::Act(key) => match self.area.enter(*key) {
-                Entered::In => Acted::Done(Entry {
-                    actor: *who,
-                    deed: Deed::Enter { area },
-                }),
-                Entered::Held(holder) => Acted::NotYet(Shown::HeldBy(holder)),
+                Entered::In => {
+                    *out = Entry {
+                        actor: *who,
+                        deed: Deed::Enter { area },
+                    };
+                    Filled::Done
+                }
+                Entered::Held(holder) => Filled::NotYet(Shown::HeldBy(holder)),
             },
-            _ => Acted::NotYet(self.why_outside()),
+            _ => Filled::NotYet(self.why_outside()),
         }
     }
 
     /// Leaves the area.
-    fn leave(&mut self, who: &Actor, area: u32) -> Acted
-        ensures { (p : Plan) → IsAnswerOf p lead may_start why_held who.now (to_leave area) self.old self.new result }
+    fn leave(&mut self, who: &Actor, area: u32, out: &mut Entry) -> Filled
+        ensures { (p : Plan) → IsAnswerOf p lead may_start why_held who.now (to_leave area) self.old self.new (acted result out.new) }
     {
         let is_left = match who {
             Actor::Act(key) => self.area.exit(*key),
             _ => false,
         };
         if is_left {
-            Acted::Done(Entry {
+            *out = Entry {
                 actor: *who,
                 deed: Deed::Leave { area },
-            })
+            };
+            Filled::Done
         } else {
-            Acted::NotYet(Shown::Unmatched)
+            Filled::NotYet(Shown::Unmatched)
         }
     }
 
