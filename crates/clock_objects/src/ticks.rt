@@ -2,15 +2,18 @@
 
 ghost use Rattle.std.specs.Prelude.{◌≡◌, ℕ, true, false, is_some, unwrap_or};
 ghost use Rattle.bus_semantics.specs.Common.{Contains, Plan, to_start, to_tick, wanted_of};
+ghost use Rattle.bus_semantics.specs.declared.entries.Actor.{Actor};
+ghost use Rattle.bus_semantics.specs.declared.entries.Deed.TheVariants.{Tick};
 ghost use Rattle.object_kinds.specs.declared.acted.Shown.{Shown};
-ghost use Rattle.object_kinds.specs.declared.acted.Acted.TheVariants.{NotYet};
-ghost use Rattle.object_kinds.specs.Kinds.{IsAnswerOf};
+ghost use Rattle.object_kinds.specs.declared.acted.Acted.TheVariants.{Done};
+ghost use Rattle.object_kinds.specs.declared.acted.Filled.TheVariants as filled;
+ghost use Rattle.object_kinds.specs.Kinds.{IsAnswerOf, acted};
 ghost use Rattle.clock_objects.specs.Kept.{may_start};
 ghost use Rattle.clock_objects.specs.Leading.{after_start, after_tick, lead, why_held};
 ghost use Rattle.clock_objects.specs.Plans.{IsOfPlan};
 
 use bus_semantics::{Actor, Deed, Entry, Wish};
-use object_kinds::{Acted, Shown, find};
+use object_kinds::{Filled, Shown, find};
 use rte_value::Value;
 use std::marker::Model;
 use tick_events::Clock;
@@ -40,56 +43,69 @@ impl Model for Ticks {
 }
 
 impl Ticks {
-    /// Makes the entry of a wish on the clock, if one may come: a tick, or the start by a TimingEvent or InitEvent. It takes no memory.
-    /// `NotYet` changes nothing.
-    pub fn act(&mut self, who: &Actor, wish: &Wish) -> Acted
+    /// Fills in the entry of a wish on the clock, if one may come: a tick, or the start by a TimingEvent or InitEvent. It takes no memory.
+    /// `NotYet` changes nothing of the clock.
+    pub fn act(&mut self, who: &Actor, wish: &Wish, out: &mut Entry) -> Filled
         requires planned { (p : Plan) × (object : ℕ) × IsOfPlan p object self.old.kept }
         ensures planned { (p : Plan) (object : ℕ) → IsOfPlan p object self.old.kept → IsOfPlan p object self.new.kept }
-        ensures answer { (p : Plan) (object : ℕ) → IsOfPlan p object self.old.kept → IsAnswerOf p lead may_start why_held who.now (wanted_of wish.now) self.old.kept self.new.kept result }
-        ensures same { (shown : Shown) → result ≡ NotYet shown → self.new ≡ self.old }
+        ensures answer { (p : Plan) (object : ℕ) → IsOfPlan p object self.old.kept → IsAnswerOf p lead may_start why_held who.now (wanted_of wish.now) self.old.kept self.new.kept (acted result out.new) }
+        ensures same { (shown : Shown) → result ≡ filled.NotYet shown → self.new ≡ self.old }
         ensures told { (event : ℕ) → may_start self.old.kept event ≡ false → may_start self.new.kept event ≡ true → Contains self.new.woken event }
         ensures only { (event : ℕ) → wanted_of wish.now ≡ to_tick → Contains self.new.woken event → (may_start self.old.kept event ≡ false) × (may_start self.new.kept event ≡ true) }
     {
         match wish {
-            Wish::Tick => self.tick(who),
-            Wish::Start { event } => self.start(who, *event),
-            _ => Acted::NotYet(Shown::Unmatched),
+            Wish::Tick => self.tick_by(who, out),
+            Wish::Start { event } => self.start(who, *event, out),
+            _ => Filled::NotYet(Shown::Unmatched),
         }
     }
 
-    /// A tick by the actor.
-    fn tick(&mut self, who: &Actor) -> Acted
-        ensures answer { (p : Plan) → IsAnswerOf p lead may_start why_held who.now to_tick self.old.kept self.new.kept result }
+    /// A tick of the clock (SWS_RTE: TimingEvent): what a wish of it makes, without the entry. It takes no memory.
+    pub fn tick(&mut self)
+        ensures answer { (p : Plan) (a : Actor) → IsAnswerOf p lead may_start why_held a to_tick self.old.kept self.new.kept (Done (record { actor = a; deed = Tick })) }
+        ensures planned { (p : Plan) (object : ℕ) → IsOfPlan p object self.old.kept → IsOfPlan p object self.new.kept }
         ensures kept { self.new.kept ≡ after_tick self.old.kept }
-        ensures same { (shown : Shown) → result ≡ NotYet shown → self.new ≡ self.old }
         ensures told { (event : ℕ) → may_start self.old.kept event ≡ false → may_start self.new.kept event ≡ true → Contains self.new.woken event }
         ensures only { (event : ℕ) → Contains self.new.woken event → (may_start self.old.kept event ≡ false) × (may_start self.new.kept event ≡ true) }
     {
         self.clock
             .tick_and_tell(self.timings.as_slice(), &mut self.woken);
-        Acted::Done(Entry {
+    }
+
+    /// A tick by the actor.
+    fn tick_by(&mut self, who: &Actor, out: &mut Entry) -> Filled
+        ensures answer { (p : Plan) → IsAnswerOf p lead may_start why_held who.now to_tick self.old.kept self.new.kept (acted result out.new) }
+        ensures kept { self.new.kept ≡ after_tick self.old.kept }
+        ensures same { (shown : Shown) → result ≡ filled.NotYet shown → self.new ≡ self.old }
+        ensures told { (event : ℕ) → may_start self.old.kept event ≡ false → may_start self.new.kept event ≡ true → Contains self.new.woken event }
+        ensures only { (event : ℕ) → Contains self.new.woken event → (may_start self.old.kept event ≡ false) × (may_start self.new.kept event ≡ true) }
+    {
+        self.tick();
+        *out = Entry {
             actor: *who,
             deed: Deed::Tick,
-        })
+        };
+        Filled::Done
     }
 
     /// The start by an event for the actor, if it is pending.
-    fn start(&mut self, who: &Actor, event: u32) -> Acted
-        ensures answer { (p : Plan) (object : ℕ) → IsOfPlan p object self.old.kept → IsAnswerOf p lead may_start why_held who.now (to_start event) self.old.kept self.new.kept result }
+    fn start(&mut self, who: &Actor, event: u32, out: &mut Entry) -> Filled
+        ensures answer { (p : Plan) (object : ℕ) → IsOfPlan p object self.old.kept → IsAnswerOf p lead may_start why_held who.now (to_start event) self.old.kept self.new.kept (acted result out.new) }
         ensures kept { self.new.kept ≡ unwrap_or (after_start self.old.kept event) self.old.kept }
-        ensures same { (shown : Shown) → result ≡ NotYet shown → self.new ≡ self.old }
+        ensures same { (shown : Shown) → result ≡ filled.NotYet shown → self.new ≡ self.old }
     {
         if self.take_start(event) {
-            Acted::Done(Entry {
+            *out = Entry {
                 actor: *who,
                 deed: Deed::Start {
                     event,
                     point: None,
                     value: Value::empty(),
                 },
-            })
+            };
+            Filled::Done
         } else {
-            Acted::NotYet(Shown::NotDue(event))
+            Filled::NotYet(Shown::NotDue(event))
         }
     }
 
