@@ -3,10 +3,9 @@
 ghost use Rattle.std.specs.Prelude.{◌≡◌, ◌<◌, ◌≤◌, ◌+◌, ◌⊎◌, ℕ, count_by, length, not, true, false, Some};
 ghost use Rattle.bus_semantics.specs.Common.{Contains, vec_capacity, words_of, Plan, plan_of, look, groups_fit, to_start, to_fetch, to_write, to_read, to_invalidate, to_see_updated};
 ghost use Rattle.bus_semantics.specs.Common.{to_publish, wanted_of, object_of, touched};
-ghost use Rattle.bus_semantics.specs.declared.entries.Entry.{Entry};
 ghost use Rattle.object_kinds.specs.declared.acted.Shown.{Shown};
-ghost use Rattle.object_kinds.specs.declared.acted.Acted.TheVariants.{Done, NotYet};
-ghost use Rattle.object_kinds.specs.Common.{place, members_of, IsAnswerOf};
+ghost use Rattle.object_kinds.specs.declared.acted.Filled.TheVariants as filled;
+ghost use Rattle.object_kinds.specs.Common.{place, members_of, IsAnswerOf, acted};
 ghost use Rattle.data_objects.specs.KeptValues.{after_write};
 ghost use Rattle.data_objects.specs.Acting.{IsActed, IsTaken, IsWishIn, group_seen, started_at};
 ghost use Rattle.data_objects.specs.Kept.{may_start};
@@ -15,7 +14,7 @@ ghost use Rattle.data_objects.specs.Plans.{IsGroupOfPlan, IsOfPlan};
 
 use crate::unqueued::{ReadState, Unqueued};
 use bus_semantics::{Actor, BusPlan, Deed, ElemKind, ElemPlan, Entry, Wish};
-use object_kinds::{Acted, Shown, find};
+use object_kinds::{Filled, Shown, find};
 use rte_value::{Code, Value};
 use std::marker::Model;
 
@@ -81,123 +80,127 @@ fn code_for(p: &BusPlan, elem: u32, state: &ReadState) -> Code
 }
 
 impl Group {
-    /// Makes the entry of a wish on the group that it touches, if one may come (SWS_RTE: Rte_Write, Rte_Read, Rte_Invalidate,
-    /// Rte_IsUpdated, implicit access, DataReceivedEvent). It takes no memory. `NotYet` changes nothing. Then no entry of the
-    /// actor and the wish leads on, and the answer says why. Every entry but a write or a publication leaves the list of woken
-    /// events as it was.
-    pub fn act(&mut self, p: &BusPlan, who: &Actor, wish: &Wish) -> Acted
+    /// Makes the entry of a wish on the group that it touches, if one may come, and fills it in at `out` (SWS_RTE: Rte_Write, Rte_Read,
+    /// Rte_Invalidate, Rte_IsUpdated, implicit access, DataReceivedEvent). It takes no memory. `NotYet` changes nothing of the group.
+    /// Then no entry of the actor and the wish leads on, and the answer says why. Every entry but a write or a publication leaves
+    /// the list of woken events as it was.
+    pub fn act(&mut self, p: &BusPlan, who: &Actor, wish: &Wish, out: &mut Entry) -> Filled
         requires groups { groups_fit (plan_of p.now) ≡ true }
         requires touching { object_of (plan_of p.now) who.now (wanted_of wish.now) ≡ Some (touched (plan_of p.now) who.now (wanted_of wish.now)) }
         requires planned { IsOfPlan (plan_of p.now) (touched (plan_of p.now) who.now (wanted_of wish.now)) self.old.kept }
         ensures planned { IsOfPlan (plan_of p.now) (touched (plan_of p.now) who.now (wanted_of wish.now)) self.new.kept }
-        ensures answer { IsAnswerOf (plan_of p.now) (lead (plan_of p.now) (touched (plan_of p.now) who.now (wanted_of wish.now))) may_start why_held who.now (wanted_of wish.now) self.old.kept self.new.kept result }
-        ensures same { (shown : Shown) → result ≡ NotYet shown → self.new ≡ self.old }
+        ensures answer { IsAnswerOf (plan_of p.now) (lead (plan_of p.now) (touched (plan_of p.now) who.now (wanted_of wish.now))) may_start why_held who.now (wanted_of wish.now) self.old.kept self.new.kept (acted result out.new) }
+        ensures same { (shown : Shown) → result ≡ filled.NotYet shown → self.new ≡ self.old }
         ensures told { (event : ℕ) → may_start self.old.kept event ≡ false → may_start self.new.kept event ≡ true → Contains self.new.woken event }
-        ensures only { (e : Entry) → result ≡ Done e → wakes e.deed ≡ true → (event : ℕ) → Contains self.new.woken event → (may_start self.old.kept event ≡ false) × (may_start self.new.kept event ≡ true) }
-        ensures left { (e : Entry) → result ≡ Done e → wakes e.deed ≡ false → self.new.woken ≡ self.old.woken }
+        ensures only { result ≡ filled.Done → wakes out.new.deed ≡ true → (event : ℕ) → Contains self.new.woken event → (may_start self.old.kept event ≡ false) × (may_start self.new.kept event ≡ true) }
+        ensures left { result ≡ filled.Done → wakes out.new.deed ≡ false → self.new.woken ≡ self.old.woken }
     {
-        self.act_by_wish(p, who, wish)
+        self.act_by_wish(p, who, wish, out)
     }
 
     /// Makes the entry of a wish as `act` does, on a group that is one of several in a bundle: of whatever else is wished, an element
     /// that is read or looked at is of the group.
-    pub fn act_in_group(&mut self, p: &BusPlan, who: &Actor, wish: &Wish) -> Acted
+    pub fn act_in_group(&mut self, p: &BusPlan, who: &Actor, wish: &Wish, out: &mut Entry) -> Filled
         requires groups { groups_fit (plan_of p.now) ≡ true }
         requires planned { (group : ℕ) → group_seen (plan_of p.now) (wanted_of wish.now) ≡ Some group → IsGroupOfPlan (plan_of p.now) group self.old.kept }
         ensures planned { (group : ℕ) → IsWishIn (plan_of p.now) group (wanted_of wish.now) → IsGroupOfPlan (plan_of p.now) group self.old.kept → IsGroupOfPlan (plan_of p.now) group self.new.kept }
         ensures answer { (group : ℕ) → IsWishIn (plan_of p.now) group (wanted_of wish.now) → IsGroupOfPlan (plan_of p.now) group self.old.kept →
-            IsAnswerOf (plan_of p.now) (group_lead (plan_of p.now) group) may_start why_held who.now (wanted_of wish.now) self.old.kept self.new.kept result }
-        ensures same { (group : ℕ) → IsWishIn (plan_of p.now) group (wanted_of wish.now) → (shown : Shown) → result ≡ NotYet shown → self.new ≡ self.old }
+            IsAnswerOf (plan_of p.now) (group_lead (plan_of p.now) group) may_start why_held who.now (wanted_of wish.now) self.old.kept self.new.kept (acted result out.new) }
+        ensures same { (group : ℕ) → IsWishIn (plan_of p.now) group (wanted_of wish.now) → (shown : Shown) → result ≡ filled.NotYet shown → self.new ≡ self.old }
         ensures long { length self.new.kept.unqueued.due ≡ length self.old.kept.unqueued.due }
     {
-        self.act_by_wish(p, who, wish)
+        self.act_by_wish(p, who, wish, out)
     }
 
     /// Makes the entry of a wish, by what it wants.
-    fn act_by_wish(&mut self, p: &BusPlan, who: &Actor, wish: &Wish) -> Acted
+    fn act_by_wish(&mut self, p: &BusPlan, who: &Actor, wish: &Wish, out: &mut Entry) -> Filled
         requires groups { groups_fit (plan_of p.now) ≡ true }
         requires planned { (group : ℕ) → group_seen (plan_of p.now) (wanted_of wish.now) ≡ Some group → IsGroupOfPlan (plan_of p.now) group self.old.kept }
-        ensures acted { (group : ℕ) → IsWishIn (plan_of p.now) group (wanted_of wish.now) → IsActed (plan_of p.now) group who.now (wanted_of wish.now) self.old self.new result }
+        ensures acted { (group : ℕ) → IsWishIn (plan_of p.now) group (wanted_of wish.now) → IsActed (plan_of p.now) group who.now (wanted_of wish.now) self.old self.new (acted result out.new) }
         ensures long { length self.new.kept.unqueued.due ≡ length self.old.kept.unqueued.due }
     {
         // Each arm returns: what the arms give to a match is copied once more behind it.
         match wish {
-            Wish::Write { elem, value } => return self.write(who, *elem, value),
-            Wish::Publish { elem, value } => return self.publish(who, *elem, value),
-            Wish::Invalidate { elem } => return self.invalidate(who, *elem),
+            Wish::Write { elem, value } => return self.write(who, *elem, value, out),
+            Wish::Publish { elem, value } => return self.publish(who, *elem, value, out),
+            Wish::Invalidate { elem } => return self.invalidate(who, *elem, out),
             Wish::Read { elem } => match p.group_of(*elem) {
-                Some(group) => return self.read(p, group, who, *elem),
-                None => return Acted::NotYet(Shown::Unmatched),
+                Some(group) => return self.read(p, group, who, *elem, out),
+                None => return Filled::NotYet(Shown::Unmatched),
             },
             Wish::Fetch { elem } => match p.group_of(*elem) {
-                Some(group) => return self.fetch(p, group, who, *elem),
-                None => return Acted::NotYet(Shown::Unmatched),
+                Some(group) => return self.fetch(p, group, who, *elem, out),
+                None => return Filled::NotYet(Shown::Unmatched),
             },
             Wish::IsUpdated { elem } => match p.group_of(*elem) {
-                Some(group) => return self.is_updated(p, group, who, *elem),
-                None => return Acted::NotYet(Shown::Unmatched),
+                Some(group) => return self.is_updated(p, group, who, *elem, out),
+                None => return Filled::NotYet(Shown::Unmatched),
             },
-            Wish::Start { event } => return self.start(who, *event),
-            _ => return Acted::NotYet(Shown::Unmatched),
+            Wish::Start { event } => return self.start(who, *event, out),
+            _ => return Filled::NotYet(Shown::Unmatched),
         }
     }
 
     /// A write to an element.
-    fn write(&mut self, who: &Actor, elem: u32, value: &Value) -> Acted
-        ensures { (p : Plan) (group : ℕ) → IsActed p group who.now (to_write elem (words_of value.now)) self.old self.new result }
+    fn write(&mut self, who: &Actor, elem: u32, value: &Value, out: &mut Entry) -> Filled
+        ensures { (p : Plan) (group : ℕ) → IsActed p group who.now (to_write elem (words_of value.now)) self.old self.new (acted result out.new) }
     {
         self.unqueued
             .write_and_tell(value, self.events.as_slice(), &mut self.woken);
-        Acted::Done(Entry {
+        *out = Entry {
             actor: *who,
             deed: Deed::Write {
                 elem,
                 value: *value,
             },
-        })
+        };
+        Filled::Done
     }
 
     /// A publication of an element.
-    fn publish(&mut self, who: &Actor, elem: u32, value: &Value) -> Acted
-        ensures { (p : Plan) (group : ℕ) → IsActed p group who.now (to_publish elem (words_of value.now)) self.old self.new result }
+    fn publish(&mut self, who: &Actor, elem: u32, value: &Value, out: &mut Entry) -> Filled
+        ensures { (p : Plan) (group : ℕ) → IsActed p group who.now (to_publish elem (words_of value.now)) self.old self.new (acted result out.new) }
     {
         self.unqueued
             .publish_and_tell(value, self.events.as_slice(), &mut self.woken);
-        Acted::Done(Entry {
+        *out = Entry {
             actor: *who,
             deed: Deed::Publish {
                 elem,
                 value: *value,
             },
-        })
+        };
+        Filled::Done
     }
 
     /// An invalidation of an element.
-    fn invalidate(&mut self, who: &Actor, elem: u32) -> Acted
-        ensures { (p : Plan) (group : ℕ) → IsActed p group who.now (to_invalidate elem) self.old self.new result }
+    fn invalidate(&mut self, who: &Actor, elem: u32, out: &mut Entry) -> Filled
+        ensures { (p : Plan) (group : ℕ) → IsActed p group who.now (to_invalidate elem) self.old self.new (acted result out.new) }
     {
         self.unqueued.invalidate();
-        Acted::Done(Entry {
+        *out = Entry {
             actor: *who,
             deed: Deed::Invalidate { elem },
-        })
+        };
+        Filled::Done
     }
 
     /// The start by an event, if it is pending.
-    fn start(&mut self, who: &Actor, event: u32) -> Acted
-        ensures { (p : Plan) (group : ℕ) → IsActed p group who.now (to_start event) self.old self.new result }
+    fn start(&mut self, who: &Actor, event: u32, out: &mut Entry) -> Filled
+        ensures { (p : Plan) (group : ℕ) → IsActed p group who.now (to_start event) self.old self.new (acted result out.new) }
     {
         if self.take_start(event) {
-            Acted::Done(Entry {
+            *out = Entry {
                 actor: *who,
                 deed: Deed::Start {
                     event,
                     point: None,
                     value: Value::empty(),
                 },
-            })
+            };
+            Filled::Done
         } else {
-            Acted::NotYet(Shown::NotDue(event))
+            Filled::NotYet(Shown::NotDue(event))
         }
     }
 
@@ -212,64 +215,71 @@ impl Group {
     }
 
     /// A read by an element.
-    fn read(&mut self, p: &BusPlan, group: u32, who: &Actor, elem: u32) -> Acted
+    fn read(&mut self, p: &BusPlan, group: u32, who: &Actor, elem: u32, out: &mut Entry) -> Filled
         requires groups { groups_fit (plan_of p.now) ≡ true }
         requires within { group < length p.now.groups }
         requires inits { length self.old.kept.unqueued.inits ≡ length (members_of (plan_of p.now) group) }
-        ensures { IsActed (plan_of p.now) group who.now (to_read elem) self.old self.new result }
+        ensures { IsActed (plan_of p.now) group who.now (to_read elem) self.old self.new (acted result out.new) }
     {
         match receiver(p, group, elem) {
             Some(receiver) => {
                 let state = self.unqueued.read(receiver);
                 let code = code_for(p, elem, &state);
-                Acted::Done(Entry {
+                *out = Entry {
                     actor: *who,
                     deed: Deed::Read {
                         elem,
                         code,
                         value: state.value,
                     },
-                })
+                };
+                Filled::Done
             }
-            None => Acted::NotYet(Shown::Unmatched),
+            None => Filled::NotYet(Shown::Unmatched),
         }
     }
 
     /// A fetch of an element.
-    fn fetch(&self, p: &BusPlan, group: u32, who: &Actor, elem: u32) -> Acted
+    fn fetch(&self, p: &BusPlan, group: u32, who: &Actor, elem: u32, out: &mut Entry) -> Filled
         requires groups { groups_fit (plan_of p.now) ≡ true }
         requires within { group < length p.now.groups }
         requires inits { length self.now.kept.unqueued.inits ≡ length (members_of (plan_of p.now) group) }
-        ensures { IsActed (plan_of p.now) group who.now (to_fetch elem) self.now self.now result }
+        ensures { IsActed (plan_of p.now) group who.now (to_fetch elem) self.now self.now (acted result out.new) }
     {
         match receiver(p, group, elem) {
-            Some(receiver) => Acted::Done(Entry {
-                actor: *who,
-                deed: Deed::Fetch {
-                    elem,
-                    value: self.unqueued.fetch(receiver),
-                },
-            }),
-            None => Acted::NotYet(Shown::Unmatched),
+            Some(receiver) => {
+                *out = Entry {
+                    actor: *who,
+                    deed: Deed::Fetch {
+                        elem,
+                        value: self.unqueued.fetch(receiver),
+                    },
+                };
+                Filled::Done
+            }
+            None => Filled::NotYet(Shown::Unmatched),
         }
     }
 
     /// Whether an element is updated.
-    fn is_updated(&self, p: &BusPlan, group: u32, who: &Actor, elem: u32) -> Acted
+    fn is_updated(&self, p: &BusPlan, group: u32, who: &Actor, elem: u32, out: &mut Entry) -> Filled
         requires groups { groups_fit (plan_of p.now) ≡ true }
         requires within { group < length p.now.groups }
         requires inits { length self.now.kept.unqueued.inits ≡ length (members_of (plan_of p.now) group) }
-        ensures { IsActed (plan_of p.now) group who.now (to_see_updated elem) self.now self.now result }
+        ensures { IsActed (plan_of p.now) group who.now (to_see_updated elem) self.now self.now (acted result out.new) }
     {
         match receiver(p, group, elem) {
-            Some(receiver) => Acted::Done(Entry {
-                actor: *who,
-                deed: Deed::IsUpdated {
-                    elem,
-                    yes: self.unqueued.is_updated(receiver),
-                },
-            }),
-            None => Acted::NotYet(Shown::Unmatched),
+            Some(receiver) => {
+                *out = Entry {
+                    actor: *who,
+                    deed: Deed::IsUpdated {
+                        elem,
+                        yes: self.unqueued.is_updated(receiver),
+                    },
+                };
+                Filled::Done
+            }
+            None => Filled::NotYet(Shown::Unmatched),
         }
     }
 

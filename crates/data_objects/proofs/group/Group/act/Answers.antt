@@ -1,6 +1,6 @@
 use Rattle.std.proofs.Common.{subst}
 use Rattle.bus_semantics.specs.Common.{plan_of, wanted_of, touched}
-use Rattle.object_kinds.specs.Layout.{group_at}
+use Rattle.object_kinds.specs.Common.{acted, group_at}
 use Rattle.data_objects.specs.Acting.{IsActed}
 use Rattle.data_objects.specs.Plans.{IsGroupOfPlan}
 use Rattle.data_objects.proofs.Acting.{acted_answers, acted_planned, acted_tells, wish_inside, seen_itself}
@@ -18,7 +18,7 @@ returns-clause-answer c =
     let p = plan_of c.args.p.now in
     let w = wanted_of c.args.wish.now in
     let object = touched p c.args.who.now w in
-    acted_answers p (group_at p object) c.args.who.now w c.args.self.now c.act_by_wish.new.self c.act_by_wish.result c.requires.planned.group
+    acted_answers p (group_at p object) c.args.who.now w c.args.self.now c.act_by_wish.new.self (acted c.act_by_wish.result c.act_by_wish.new.out) c.requires.planned.group
     (c.act_by_wish.ensures.acted (group_at p object) (wish_inside p object c.args.who.now c.requires.planned.alone w c.requires.touching))
 
 pub returns-clause-planned : goal.returns-clause-planned
@@ -28,7 +28,7 @@ returns-clause-planned c =
     let object = touched p c.args.who.now w in
     record {
       alone = c.requires.planned.alone;
-      group = acted_planned p (group_at p object) c.args.who.now w c.args.self.now c.act_by_wish.new.self c.act_by_wish.result c.requires.planned.group
+      group = acted_planned p (group_at p object) c.args.who.now w c.args.self.now c.act_by_wish.new.self (acted c.act_by_wish.result c.act_by_wish.new.out) c.requires.planned.group
           (c.act_by_wish.ensures.acted (group_at p object) (wish_inside p object c.args.who.now c.requires.planned.alone w c.requires.touching));
     }
 
@@ -37,7 +37,7 @@ returns-clause-told c =
     let p = plan_of c.args.p.now in
     let w = wanted_of c.args.wish.now in
     let object = touched p c.args.who.now w in
-    acted_tells p (group_at p object) c.args.who.now w c.args.self.now c.act_by_wish.new.self c.act_by_wish.result
+    acted_tells p (group_at p object) c.args.who.now w c.args.self.now c.act_by_wish.new.self (acted c.act_by_wish.result c.act_by_wish.new.out)
     (c.act_by_wish.ensures.acted (group_at p object) (wish_inside p object c.args.who.now c.requires.planned.alone w c.requires.touching))
 
 pub returns-clause-same : goal.returns-clause-same
@@ -45,21 +45,21 @@ returns-clause-same c = λ shown is.
     let p = plan_of c.args.p.now in
     let w = wanted_of c.args.wish.now in
     let object = touched p c.args.who.now w in
-    (subst (IsActed p (group_at p object) c.args.who.now w c.args.self.now c.act_by_wish.new.self) is
+    (subst (λ r. IsActed p (group_at p object) c.args.who.now w c.args.self.now c.act_by_wish.new.self (acted r c.act_by_wish.new.out)) is
     (c.act_by_wish.ensures.acted (group_at p object) (wish_inside p object c.args.who.now c.requires.planned.alone w c.requires.touching))).same
 
 pub returns-clause-only : goal.returns-clause-only
-returns-clause-only c = λ e is.
+returns-clause-only c = λ is.
     let p = plan_of c.args.p.now in
     let w = wanted_of c.args.wish.now in
     let object = touched p c.args.who.now w in
-    (subst (IsActed p (group_at p object) c.args.who.now w c.args.self.now c.act_by_wish.new.self) is
+    (subst (λ r. IsActed p (group_at p object) c.args.who.now w c.args.self.now c.act_by_wish.new.self (acted r c.act_by_wish.new.out)) is
     (c.act_by_wish.ensures.acted (group_at p object) (wish_inside p object c.args.who.now c.requires.planned.alone w c.requires.touching))).told.only
 
 pub returns-clause-left : goal.returns-clause-left
-returns-clause-left c = λ e is.
+returns-clause-left c = λ is.
     let p = plan_of c.args.p.now in
     let w = wanted_of c.args.wish.now in
     let object = touched p c.args.who.now w in
-    (subst (IsActed p (group_at p object) c.args.who.now w c.args.self.now c.act_by_wish.new.self) is
+    (subst (λ r. IsActed p (group_at p object) c.args.who.now w c.args.self.now c.act_by_wish.new.self (acted r c.act_by_wish.new.out)) is
     (c.act_by_wish.ensures.acted (group_at p object) (wish_inside p object c.args.who.now c.requires.planned.alone w c.requires.touching))).told.left
