@@ -2,10 +2,9 @@
 
 ghost use Rattle.std.specs.Prelude.{◌≡◌, ℕ, length, true, false, Some};
 ghost use Rattle.bus_semantics.specs.Common.{Contains, words_of, wish_fits, Plan, plan_of, to_start, to_send, to_receive, wanted_of, object_of, touched};
-ghost use Rattle.bus_semantics.specs.declared.entries.Entry.{Entry};
 ghost use Rattle.object_kinds.specs.declared.acted.Shown.{Shown};
-ghost use Rattle.object_kinds.specs.declared.acted.Acted.TheVariants.{Done, NotYet};
-ghost use Rattle.object_kinds.specs.Common.{place, IsAnswerOf};
+ghost use Rattle.object_kinds.specs.declared.acted.Filled.TheVariants as filled;
+ghost use Rattle.object_kinds.specs.Common.{place, IsAnswerOf, acted};
 ghost use Rattle.queue_objects.specs.Acting.{IsActed, IsTaken};
 ghost use Rattle.queue_objects.specs.Kept.{may_start};
 ghost use Rattle.queue_objects.specs.Layout.{is_joined_at};
@@ -14,7 +13,7 @@ ghost use Rattle.queue_objects.specs.Plans.{IsOfPlan};
 
 use crate::elements::is_joined;
 use bus_semantics::{Actor, BusPlan, Deed, Entry, Wish};
-use object_kinds::{Acted, Shown, find};
+use object_kinds::{Filled, Shown, find};
 use queued_ports::Queues;
 use rte_value::{Code, Value};
 use std::marker::Model;
@@ -47,108 +46,112 @@ impl Model for QueueGroup {
 }
 
 impl QueueGroup {
-    /// Makes the entry of a wish on the group that it touches, if one may come (SWS_RTE: Rte_Send, Rte_Receive,
+    /// Fills in the entry of a wish on the group that it touches, if one may come (SWS_RTE: Rte_Send, Rte_Receive,
     /// DataReceivedEvent). The wish fits its actor. One send reaches all receivers of the group. It takes no memory. `NotYet` changes
-    /// nothing. Every entry but a send leaves the list of woken events as it was.
-    pub fn act(&mut self, p: &BusPlan, who: &Actor, wish: &Wish) -> Acted
+    /// nothing of the group. Every entry but a send leaves the list of woken events as it was.
+    pub fn act(&mut self, p: &BusPlan, who: &Actor, wish: &Wish, out: &mut Entry) -> Filled
         requires fits { wish_fits (plan_of p.now) who.now (wanted_of wish.now) ≡ true }
         requires touching { object_of (plan_of p.now) who.now (wanted_of wish.now) ≡ Some (touched (plan_of p.now) who.now (wanted_of wish.now)) }
         requires planned { IsOfPlan (plan_of p.now) (touched (plan_of p.now) who.now (wanted_of wish.now)) self.old.kept }
         ensures planned { IsOfPlan (plan_of p.now) (touched (plan_of p.now) who.now (wanted_of wish.now)) self.new.kept }
-        ensures answer { IsAnswerOf (plan_of p.now) (lead (plan_of p.now)) may_start why_held who.now (wanted_of wish.now) self.old.kept self.new.kept result }
-        ensures same { (shown : Shown) → result ≡ NotYet shown → self.new ≡ self.old }
+        ensures answer { IsAnswerOf (plan_of p.now) (lead (plan_of p.now)) may_start why_held who.now (wanted_of wish.now) self.old.kept self.new.kept (acted result out.new) }
+        ensures same { (shown : Shown) → result ≡ filled.NotYet shown → self.new ≡ self.old }
         ensures told { (event : ℕ) → may_start self.old.kept event ≡ false → may_start self.new.kept event ≡ true → Contains self.new.woken event }
-        ensures only { (e : Entry) → result ≡ Done e → wakes e.deed ≡ true → (event : ℕ) → Contains self.new.woken event → (may_start self.old.kept event ≡ false) × (may_start self.new.kept event ≡ true) }
-        ensures left { (e : Entry) → result ≡ Done e → wakes e.deed ≡ false → self.new.woken ≡ self.old.woken }
+        ensures only { result ≡ filled.Done → wakes out.new.deed ≡ true → (event : ℕ) → Contains self.new.woken event → (may_start self.old.kept event ≡ false) × (may_start self.new.kept event ≡ true) }
+        ensures left { result ≡ filled.Done → wakes out.new.deed ≡ false → self.new.woken ≡ self.old.woken }
     {
-        self.act_by_wish(p, who, wish)
+        self.act_by_wish(p, who, wish, out)
     }
 
-    /// Makes the entry of a wish, by what it wants.
-    fn act_by_wish(&mut self, p: &BusPlan, who: &Actor, wish: &Wish) -> Acted
+    /// Fills in the entry of a wish, by what it wants.
+    fn act_by_wish(&mut self, p: &BusPlan, who: &Actor, wish: &Wish, out: &mut Entry) -> Filled
         requires fits { wish_fits (plan_of p.now) who.now (wanted_of wish.now) ≡ true }
         requires touching { object_of (plan_of p.now) who.now (wanted_of wish.now) ≡ Some (touched (plan_of p.now) who.now (wanted_of wish.now)) }
         requires planned { IsOfPlan (plan_of p.now) (touched (plan_of p.now) who.now (wanted_of wish.now)) self.old.kept }
-        ensures { IsActed (plan_of p.now) who.now (wanted_of wish.now) self.old self.new result }
+        ensures { IsActed (plan_of p.now) who.now (wanted_of wish.now) self.old self.new (acted result out.new) }
     {
         match wish {
-            Wish::Send { elem, value } => self.send(who, *elem, value),
-            Wish::Receive { elem } => self.receive(p, who, *elem),
-            Wish::Start { event } => self.start(who, *event),
-            _ => Acted::NotYet(Shown::Unmatched),
+            Wish::Send { elem, value } => self.send(who, *elem, value, out),
+            Wish::Receive { elem } => self.receive(p, who, *elem, out),
+            Wish::Start { event } => self.start(who, *event, out),
+            _ => Filled::NotYet(Shown::Unmatched),
         }
     }
 
     /// A send by an element of the group.
-    fn send(&mut self, who: &Actor, elem: u32, value: &Value) -> Acted
+    fn send(&mut self, who: &Actor, elem: u32, value: &Value, out: &mut Entry) -> Filled
         requires { length (words_of value.now) ≡ self.old.kept.queued.words }
-        ensures { (p : Plan) → IsActed p who.now (to_send elem (words_of value.now)) self.old self.new result }
+        ensures { (p : Plan) → IsActed p who.now (to_send elem (words_of value.now)) self.old self.new (acted result out.new) }
     {
         let code = self
             .queues
             .send(value, self.events.as_slice(), &mut self.woken);
-        Acted::Done(Entry {
+        *out = Entry {
             actor: *who,
             deed: Deed::Send {
                 elem,
                 value: *value,
                 code,
             },
-        })
+        };
+        Filled::Done
     }
 
     /// A receive by an element: without a join it is not connected.
-    fn receive(&mut self, p: &BusPlan, who: &Actor, elem: u32) -> Acted
-        ensures { IsActed (plan_of p.now) who.now (to_receive elem) self.old self.new result }
+    fn receive(&mut self, p: &BusPlan, who: &Actor, elem: u32, out: &mut Entry) -> Filled
+        ensures { IsActed (plan_of p.now) who.now (to_receive elem) self.old self.new (acted result out.new) }
     {
         if is_joined(p, elem) {
-            return self.take_value(who, elem);
+            return self.take_value(who, elem, out);
         }
-        Acted::Done(Entry {
+        *out = Entry {
             actor: *who,
             deed: Deed::Receive {
                 elem,
                 code: UNCONNECTED,
                 value: Value::empty(),
             },
-        })
+        };
+        Filled::Done
     }
 
     /// A receive by an element with a join, if it is a receiver.
-    fn take_value(&mut self, who: &Actor, elem: u32) -> Acted
-        ensures { (p : Plan) → is_joined_at p elem ≡ true → IsActed p who.now (to_receive elem) self.old self.new result }
+    fn take_value(&mut self, who: &Actor, elem: u32, out: &mut Entry) -> Filled
+        ensures { (p : Plan) → is_joined_at p elem ≡ true → IsActed p who.now (to_receive elem) self.old self.new (acted result out.new) }
     {
         match find(self.receivers.as_slice(), elem) {
             Some(receiver) => {
                 let received = self.queues.receive(receiver);
-                Acted::Done(Entry {
+                *out = Entry {
                     actor: *who,
                     deed: Deed::Receive {
                         elem,
                         code: received.code,
                         value: received.value,
                     },
-                })
+                };
+                Filled::Done
             }
-            None => Acted::NotYet(Shown::Unmatched),
+            None => Filled::NotYet(Shown::Unmatched),
         }
     }
 
     /// The start by an event, if it is pending.
-    fn start(&mut self, who: &Actor, event: u32) -> Acted
-        ensures { (p : Plan) → IsActed p who.now (to_start event) self.old self.new result }
+    fn start(&mut self, who: &Actor, event: u32, out: &mut Entry) -> Filled
+        ensures { (p : Plan) → IsActed p who.now (to_start event) self.old self.new (acted result out.new) }
     {
         if self.take_start(event) {
-            Acted::Done(Entry {
+            *out = Entry {
                 actor: *who,
                 deed: Deed::Start {
                     event,
                     point: None,
                     value: Value::empty(),
                 },
-            })
+            };
+            Filled::Done
         } else {
-            Acted::NotYet(Shown::NotDue(event))
+            Filled::NotYet(Shown::NotDue(event))
         }
     }
 

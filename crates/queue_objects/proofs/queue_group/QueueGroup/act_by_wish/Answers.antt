@@ -1,5 +1,6 @@
 use Rattle.std.proofs.Common.{◌≡◌, true, Some, sym, ◌∙◌, ap, subst}
 use Rattle.bus_semantics.specs.Common.{words_of, wish_fits, plan_of, bundle_of, Wanted, to_send, wanted_of, object_of, touched}
+use Rattle.object_kinds.specs.Kinds.{acted}
 use Rattle.queue_objects.specs.Acting.{IsActed}
 use Rattle.queue_objects.proofs.Acting.{sent_words}
 use Rattle.queue_objects.proofs.queue_group.QueueGroup.act_by_wish.Goals as goal
@@ -16,9 +17,9 @@ send-requires c =
 pub returns-in-Send : goal.returns-in-Send
 returns-in-Send c =
     let p = plan_of c.args.p.now in
-    subst (λ w. IsActed p c.args.who.now w c.args.self.now c.send.new.self c.send.result) (sym (ap wanted_of c.in-Send.is)) (c.send.ensures p)
+    subst (λ w. IsActed p c.args.who.now w c.args.self.now c.send.new.self (acted c.send.result c.send.new.out)) (sym (ap wanted_of c.in-Send.is)) (c.send.ensures p)
 
 pub returns-in-Start : goal.returns-in-Start
 returns-in-Start c =
     let p = plan_of c.args.p.now in
-    subst (λ w. IsActed p c.args.who.now w c.args.self.now c.start.new.self c.start.result) (sym (ap wanted_of c.in-Start.is)) (c.start.ensures p)
+    subst (λ w. IsActed p c.args.who.now w c.args.self.now c.start.new.self (acted c.start.result c.start.new.out)) (sym (ap wanted_of c.in-Start.is)) (c.start.ensures p)
