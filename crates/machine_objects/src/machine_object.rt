@@ -2,10 +2,9 @@
 
 ghost use Rattle.std.specs.Prelude.{◌≡◌, ℕ, true, false, None, Some, slice_index_or};
 ghost use Rattle.bus_semantics.specs.Common.{Contains, Plan, to_switch, to_see_mode, to_move_on, to_start, to_admit, to_end, wanted_of};
-ghost use Rattle.bus_semantics.specs.declared.entries.Entry.{Entry};
 ghost use Rattle.object_kinds.specs.declared.acted.Shown.{Shown};
-ghost use Rattle.object_kinds.specs.declared.acted.Acted.TheVariants.{Done, NotYet};
-ghost use Rattle.object_kinds.specs.Common.{place, IsAnswerOf};
+ghost use Rattle.object_kinds.specs.declared.acted.Filled.TheVariants as filled;
+ghost use Rattle.object_kinds.specs.Common.{place, IsAnswerOf, acted};
 ghost use Rattle.machine_objects.specs.Acting.{IsActed, IsEnded, IsTaken, admission_by};
 ghost use Rattle.machine_objects.specs.Kept.{may_move, may_start};
 ghost use Rattle.machine_objects.specs.Leading.{ended_at, lead, started_at, why_held, wakes};
@@ -13,7 +12,7 @@ ghost use Rattle.machine_objects.specs.Plans.{IsAskedOf, IsOfPlan};
 
 use bus_semantics::{Actor, Deed, Entry, Wish};
 use mode_machine::{Admitted, Advanced, Machine};
-use object_kinds::{Acted, Shown, find};
+use object_kinds::{Filled, Shown, find};
 use rte_value::Value;
 use std::marker::Model;
 
@@ -45,98 +44,104 @@ impl Model for MachineObject {
 }
 
 impl MachineObject {
-    /// Makes the entry of a wish on the machine, if one may come (SWS_RTE: Rte_Switch, Rte_Mode, mode switch procedure,
+    /// Fills in the entry of a wish on the machine, if one may come (SWS_RTE: Rte_Switch, Rte_Mode, mode switch procedure,
     /// SwcModeSwitchEvent, ModeSwitchedAckEvent, ModeDisablingDependency). The wish fits its actor and touches the machine. It takes no
-    /// memory. `NotYet` changes nothing; for a phase it names the event of the plan that forbids it. Every entry but a phase or an
-    /// end leaves the list of woken events as it was.
-    pub fn act(&mut self, who: &Actor, wish: &Wish) -> Acted
+    /// memory. `NotYet` changes nothing of the machine; for a phase it names the event of the plan that forbids it. Every entry but a phase
+    /// or an end leaves the list of woken events as it was.
+    pub fn act(&mut self, who: &Actor, wish: &Wish, out: &mut Entry) -> Filled
         ensures planned { (p : Plan) (object : ℕ) → IsAskedOf p object who.now (wanted_of wish.now) self.old.kept → IsOfPlan p object self.new.kept }
-        ensures answer { (p : Plan) (object : ℕ) → IsAskedOf p object who.now (wanted_of wish.now) self.old.kept → IsAnswerOf p lead may_start why_held who.now (wanted_of wish.now) self.old.kept self.new.kept result }
-        ensures same { (shown : Shown) → result ≡ NotYet shown → self.new ≡ self.old }
+        ensures answer { (p : Plan) (object : ℕ) → IsAskedOf p object who.now (wanted_of wish.now) self.old.kept → IsAnswerOf p lead may_start why_held who.now (wanted_of wish.now) self.old.kept self.new.kept (acted result out.new) }
+        ensures same { (shown : Shown) → result ≡ filled.NotYet shown → self.new ≡ self.old }
         ensures told { (event : ℕ) → may_start self.old.kept event ≡ false → may_start self.new.kept event ≡ true → Contains self.new.woken event }
-        ensures only { (e : Entry) → result ≡ Done e → wakes e.deed ≡ true → (event : ℕ) → Contains self.new.woken event → (may_start self.old.kept event ≡ false) × (may_start self.new.kept event ≡ true) }
-        ensures left { (e : Entry) → result ≡ Done e → wakes e.deed ≡ false → self.new.woken ≡ self.old.woken }
+        ensures only { result ≡ filled.Done → wakes out.new.deed ≡ true → (event : ℕ) → Contains self.new.woken event → (may_start self.old.kept event ≡ false) × (may_start self.new.kept event ≡ true) }
+        ensures left { result ≡ filled.Done → wakes out.new.deed ≡ false → self.new.woken ≡ self.old.woken }
     {
-        self.act_by_wish(who, wish)
+        self.act_by_wish(who, wish, out)
     }
 
-    /// Makes the entry of a wish, by what it wants.
-    fn act_by_wish(&mut self, who: &Actor, wish: &Wish) -> Acted
-        ensures { IsActed who.now (wanted_of wish.now) self.old self.new result }
+    /// Fills in the entry of a wish, by what it wants.
+    fn act_by_wish(&mut self, who: &Actor, wish: &Wish, out: &mut Entry) -> Filled
+        ensures { IsActed who.now (wanted_of wish.now) self.old self.new (acted result out.new) }
     {
         match wish {
-            Wish::Switch { machine, mode } => self.switch(who, *machine, *mode),
-            Wish::Mode { port } => self.see_mode(who, *port),
-            Wish::Phase => self.move_on(who),
-            Wish::Start { event } => self.start(who, *event),
-            Wish::Admit { event } => self.admit(who, *event),
-            Wish::End { event } => self.end(who, *event),
-            _ => Acted::NotYet(Shown::Unmatched),
+            Wish::Switch { machine, mode } => self.switch(who, *machine, *mode, out),
+            Wish::Mode { port } => self.see_mode(who, *port, out),
+            Wish::Phase => self.move_on(who, out),
+            Wish::Start { event } => self.start(who, *event, out),
+            Wish::Admit { event } => self.admit(who, *event, out),
+            Wish::End { event } => self.end(who, *event, out),
+            _ => Filled::NotYet(Shown::Unmatched),
         }
     }
 
     /// Asks for a switch to a mode.
-    fn switch(&mut self, who: &Actor, machine: u32, mode: u32) -> Acted
-        ensures { IsActed who.now (to_switch machine mode) self.old self.new result }
+    fn switch(&mut self, who: &Actor, machine: u32, mode: u32, out: &mut Entry) -> Filled
+        ensures { IsActed who.now (to_switch machine mode) self.old self.new (acted result out.new) }
     {
         let code = self.machine.switch(mode);
-        Acted::Done(Entry {
+        *out = Entry {
             actor: *who,
             deed: Deed::Switch {
                 machine,
                 mode,
                 code,
             },
-        })
+        };
+        Filled::Done
     }
 
     /// The mode at a port.
-    fn see_mode(&self, who: &Actor, port: u32) -> Acted
-        ensures { IsActed who.now (to_see_mode port) self.now self.now result }
+    fn see_mode(&self, who: &Actor, port: u32, out: &mut Entry) -> Filled
+        ensures { IsActed who.now (to_see_mode port) self.now self.now (acted result out.new) }
     {
-        Acted::Done(Entry {
+        *out = Entry {
             actor: *who,
             deed: Deed::Mode {
                 port,
                 mode: self.machine.mode(),
             },
-        })
+        };
+        Filled::Done
     }
 
     /// Makes the next phase, if it may come.
-    fn move_on(&mut self, who: &Actor) -> Acted
-        ensures { IsActed who.now to_move_on self.old self.new result }
+    fn move_on(&mut self, who: &Actor, out: &mut Entry) -> Filled
+        ensures { IsActed who.now to_move_on self.old self.new (acted result out.new) }
     {
         match self.machine.advance(self.owed.as_slice(), self.acks.as_slice(), &mut self.woken) {
-            Advanced::Did(step) => Acted::Done(Entry {
-                actor: *who,
-                deed: Deed::Phase(step),
-            }),
-            Advanced::NoSwitch => Acted::NotYet(Shown::NoSwitch),
+            Advanced::Did(step) => {
+                *out = Entry {
+                    actor: *who,
+                    deed: Deed::Phase(step),
+                };
+                Filled::Done
+            }
+            Advanced::NoSwitch => Filled::NotYet(Shown::NoSwitch),
             Advanced::Running(place) => {
-                Acted::NotYet(Shown::Running(event_at(self.disabled.as_slice(), place)))
+                Filled::NotYet(Shown::Running(event_at(self.disabled.as_slice(), place)))
             }
             Advanced::Owed(place) => {
-                Acted::NotYet(Shown::Owed(event_at(self.owed.as_slice(), place)))
+                Filled::NotYet(Shown::Owed(event_at(self.owed.as_slice(), place)))
             }
         }
     }
 
     /// The start by an event, if it is due and no activation by it runs.
-    fn start(&mut self, who: &Actor, event: u32) -> Acted
-        ensures { IsActed who.now (to_start event) self.old self.new result }
+    fn start(&mut self, who: &Actor, event: u32, out: &mut Entry) -> Filled
+        ensures { IsActed who.now (to_start event) self.old self.new (acted result out.new) }
     {
         if self.take_start(event) {
-            Acted::Done(Entry {
+            *out = Entry {
                 actor: *who,
                 deed: Deed::Start {
                     event,
                     point: None,
                     value: Value::empty(),
                 },
-            })
+            };
+            Filled::Done
         } else {
-            Acted::NotYet(Shown::NotDue(event))
+            Filled::NotYet(Shown::NotDue(event))
         }
     }
 
@@ -161,26 +166,27 @@ impl MachineObject {
     }
 
     /// Admits the activation by an event that modes may disable, or drops it, unless an admitted one runs.
-    fn admit(&mut self, who: &Actor, event: u32) -> Acted
-        ensures { IsActed who.now (to_admit event) self.old self.new result }
+    fn admit(&mut self, who: &Actor, event: u32, out: &mut Entry) -> Filled
+        ensures { IsActed who.now (to_admit event) self.old self.new (acted result out.new) }
     {
         match find(self.disabled.as_slice(), event) {
-            Some(place) => admission(who, self.machine.admit(place)),
-            None => Acted::NotYet(Shown::Unmatched),
+            Some(place) => admission(who, self.machine.admit(place), out),
+            None => Filled::NotYet(Shown::Unmatched),
         }
     }
 
     /// Ends the activation by an event, if one runs.
-    fn end(&mut self, who: &Actor, event: u32) -> Acted
-        ensures { IsActed who.now (to_end event) self.old self.new result }
+    fn end(&mut self, who: &Actor, event: u32, out: &mut Entry) -> Filled
+        ensures { IsActed who.now (to_end event) self.old self.new (acted result out.new) }
     {
         if self.take_end(event) {
-            Acted::Done(Entry {
+            *out = Entry {
                 actor: *who,
                 deed: Deed::End,
-            })
+            };
+            Filled::Done
         } else {
-            Acted::NotYet(Shown::Unmatched)
+            Filled::NotYet(Shown::Unmatched)
         }
     }
 
@@ -261,19 +267,25 @@ fn event_at(events: &[u32], place: u32) -> u32
     }
 }
 
-/// The entry of an admission, if it may come.
-fn admission(who: &Actor, admitted: Admitted) -> Acted
-    ensures { result ≡ admission_by who.now admitted }
+/// Fills in the entry of an admission, if it may come.
+fn admission(who: &Actor, admitted: Admitted, out: &mut Entry) -> Filled
+    ensures { acted result out.new ≡ admission_by who.now admitted }
 {
     match admitted {
-        Admitted::Yes => Acted::Done(Entry {
-            actor: *who,
-            deed: Deed::Admit { yes: true },
-        }),
-        Admitted::No => Acted::Done(Entry {
-            actor: *who,
-            deed: Deed::Admit { yes: false },
-        }),
-        Admitted::Runs => Acted::NotYet(Shown::Unmatched),
+        Admitted::Yes => {
+            *out = Entry {
+                actor: *who,
+                deed: Deed::Admit { yes: true },
+            };
+            Filled::Done
+        }
+        Admitted::No => {
+            *out = Entry {
+                actor: *who,
+                deed: Deed::Admit { yes: false },
+            };
+            Filled::Done
+        }
+        Admitted::Runs => Filled::NotYet(Shown::Unmatched),
     }
 }

@@ -2,7 +2,7 @@ use Rattle.std.proofs.Common.{◌≡◌, ◌<◌, length, arith, sym, ◌∙◌,
 use Rattle.bus_semantics.specs.Wanted.{to_admit}
 use Rattle.object_kinds.specs.declared.acted.Acted.TheVariants.{NotYet}
 use Rattle.object_kinds.specs.declared.acted.Shown.TheVariants.{Unmatched}
-use Rattle.object_kinds.specs.Layout.{place}
+use Rattle.object_kinds.specs.Common.{acted, place}
 use Rattle.object_kinds.proofs.Placing.{place_within}
 use Rattle.machine_objects.specs.Acting.{IsActed}
 use Rattle.machine_objects.specs.Kept.{MachineState}
@@ -23,7 +23,7 @@ returns-in-Some c =
     let inside = c.self.inside in
     let there : place c.args.event inside.disabled.items ≡ Some c.in-Some.place = ap (place c.args.event) (sym c.as_slice.ensures.value) ∙ sym c.find.ensures ∙ c.in-Some.is in
     let new = state inside.owed.items inside.acks.items inside.disabled.items c.admit.new.self inside.woken.items in
-    subst (λ (s : MachineState). IsActed c.args.who.now (to_admit c.args.event) s new c.admission.result) c.self.view_is
+    subst (λ (s : MachineState). IsActed c.args.who.now (to_admit c.args.event) s new (acted c.admission.result c.admission.new.out)) c.self.view_is
     (subst (IsActed c.args.who.now (to_admit c.args.event) (state inside.owed.items inside.acks.items inside.disabled.items inside.machine inside.woken.items) new) (sym c.admission.ensures)
     (admit_acts c.args.who.now inside.owed.items inside.acks.items inside.disabled.items inside.woken.items inside.machine c.args.event c.in-Some.place c.admit.result c.admit.new.self there c.admit.ensures.answer c.admit.ensures.kept))
 
