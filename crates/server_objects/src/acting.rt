@@ -3,13 +3,14 @@
 ghost use Rattle.std.specs.Prelude.{◌≡◌, ◌<◌, ◌≤◌, ◌+◌, ◌++◌, [], ◌∷◌, IsSome, None, length, true};
 ghost use Rattle.bus_semantics.specs.Common.{vec_capacity, words_of, to_ask, to_hear, to_take_result, to_start, to_return};
 ghost use Rattle.bus_semantics.specs.declared.entries.Actor.TheVariants.{Act};
+ghost use Rattle.object_kinds.specs.Common.{acted, given};
 ghost use Rattle.server_objects.specs.Acting.{IsActed, IsAskedAt, IsReturned, IsStart, IsTaken};
 ghost use Rattle.server_objects.specs.Kept.{awaiting, has_next, told_where};
 
 use crate::server_object::ServerObject;
 use bus_semantics::{Actor, Deed, Entry};
 use client_server::Outcome;
-use object_kinds::{Acted, Shown};
+use object_kinds::{Filled, Shown};
 use rte_value::{ActKey, Code, Value};
 
 /// RTE_E_NO_DATA.
@@ -17,22 +18,23 @@ const NO_DATA: Code = 131;
 
 impl ServerObject {
     /// An Ask at a point.
-    pub(crate) fn ask(&mut self, who: &Actor, point: u32, value: &Value) -> Acted
-        ensures { IsActed who.now (to_ask point (words_of value.now)) self.old self.new result }
+    pub(crate) fn ask(&mut self, who: &Actor, point: u32, value: &Value, out: &mut Entry) -> Filled
+        ensures { IsActed who.now (to_ask point (words_of value.now)) self.old self.new (acted result out.new) }
     {
         match self.place_of(point) {
             Some(place) => {
                 let code = self.ask_at(place, value);
-                Acted::Done(Entry {
+                *out = Entry {
                     actor: *who,
                     deed: Deed::Ask {
                         point,
                         value: *value,
                         code,
                     },
-                })
+                };
+                Filled::Done
             }
-            None => Acted::NotYet(Shown::Unmatched),
+            None => Filled::NotYet(Shown::Unmatched),
         }
     }
 
@@ -73,42 +75,46 @@ impl ServerObject {
     }
 
     /// An Answer at a point, if something was returned to it.
-    pub(crate) fn hear(&mut self, who: &Actor, point: u32) -> Acted
-        ensures { IsActed who.now (to_hear point) self.old self.new result }
+    pub(crate) fn hear(&mut self, who: &Actor, point: u32, out: &mut Entry) -> Filled
+        ensures { IsActed who.now (to_hear point) self.old self.new (acted result out.new) }
     {
         match self.place_of(point) {
             Some(place) => match self.server.answer(place) {
-                Some(outcome) => Acted::Done(Entry {
-                    actor: *who,
-                    deed: Deed::Answer {
-                        point,
-                        code: outcome.code,
-                        value: outcome.value,
-                    },
-                }),
-                None => Acted::NotYet(Shown::NotReturned(point)),
+                Some(outcome) => {
+                    *out = Entry {
+                        actor: *who,
+                        deed: Deed::Answer {
+                            point,
+                            code: outcome.code,
+                            value: outcome.value,
+                        },
+                    };
+                    Filled::Done
+                }
+                None => Filled::NotYet(Shown::NotReturned(point)),
             },
-            None => Acted::NotYet(Shown::NotReturned(point)),
+            None => Filled::NotYet(Shown::NotReturned(point)),
         }
     }
 
     /// The result at a point: what was returned to it, if something was.
-    pub(crate) fn take_result(&mut self, who: &Actor, point: u32) -> Acted
-        ensures { IsActed who.now (to_take_result point) self.old self.new result }
+    pub(crate) fn take_result(&mut self, who: &Actor, point: u32, out: &mut Entry) -> Filled
+        ensures { IsActed who.now (to_take_result point) self.old self.new (acted result out.new) }
     {
         match self.place_of(point) {
             Some(place) => {
                 let outcome = self.result_at(place);
-                Acted::Done(Entry {
+                *out = Entry {
                     actor: *who,
                     deed: Deed::TakeResult {
                         point,
                         code: outcome.code,
                         value: outcome.value,
                     },
-                })
+                };
+                Filled::Done
             }
-            None => Acted::NotYet(Shown::Unmatched),
+            None => Filled::NotYet(Shown::Unmatched),
         }
     }
 
@@ -127,116 +133,132 @@ impl ServerObject {
     }
 
     /// The start by an event, if it may come.
-    pub(crate) fn start(&mut self, who: &Actor, event: u32) -> Acted
-        ensures { IsActed who.now (to_start event) self.old self.new result }
+    pub(crate) fn start(&mut self, who: &Actor, event: u32, out: &mut Entry) -> Filled
+        ensures { IsActed who.now (to_start event) self.old self.new (acted result out.new) }
     {
         match who {
-            Actor::Act(key) => self.start_for(who, key, event),
-            _ => Acted::NotYet(Shown::NotDue(event)),
+            Actor::Act(key) => self.start_for(who, key, event, out),
+            _ => Filled::NotYet(Shown::NotDue(event)),
         }
     }
 
     /// The start by an event for an activation with this key.
-    fn start_for(&mut self, who: &Actor, key: &ActKey, event: u32) -> Acted
+    fn start_for(&mut self, who: &Actor, key: &ActKey, event: u32, out: &mut Entry) -> Filled
         requires { who.now ≡ Act key.now }
-        ensures { IsActed who.now (to_start event) self.old self.new result }
+        ensures { IsActed who.now (to_start event) self.old self.new (acted result out.new) }
     {
-        match self.take_start(key.point, event) {
-            Some(deed) => Acted::Done(Entry { actor: *who, deed }),
-            None => Acted::NotYet(Shown::NotDue(event)),
+        out.actor = *who;
+        if self.take_start(key.point, event, &mut out.deed) {
+            Filled::Done
+        } else {
+            Filled::NotYet(Shown::NotDue(event))
         }
     }
 
-    /// The start by an event for an activation whose key has this point, if it may come.
-    fn take_start(&mut self, own: Option<u32>, event: u32) -> Option<Deed>
-        ensures { IsStart own event self.old self.new result }
+    /// Whether the start by an event may come for an activation whose key has this point; then it has, and `deed` is the start.
+    fn take_start(&mut self, own: Option<u32>, event: u32, deed: &mut Deed) -> bool
+        ensures { IsStart own event self.old self.new (given result deed.new) }
     {
         if event != self.event {
-            self.start_return(own, event)
+            self.start_return(own, event, deed)
         } else if self.is_queued {
-            self.start_next(own, event)
+            self.start_next(own, event, deed)
         } else {
-            self.start_directly(own, event)
+            self.start_directly(own, event, deed)
         }
     }
 
-    /// The start of a queued server.
-    fn start_next(&mut self, own: Option<u32>, event: u32) -> Option<Deed>
+    /// Whether a queued server may start for this key; then it has, and `deed` is the start.
+    fn start_next(&mut self, own: Option<u32>, event: u32, deed: &mut Deed) -> bool
         requires event { event ≡ self.old.kept.event }
         requires queued { IsSome self.old.kept.served.queue }
-        ensures { IsStart own event self.old self.new result }
+        ensures { IsStart own event self.old self.new (given result deed.new) }
     {
         if own.is_some() {
-            return None;
+            return false;
         }
         match self.server.start() {
-            Some(request) => Some(Deed::Start {
-                event,
-                point: Some(self.points[request.point as usize]),
-                value: request.value,
-            }),
-            None => None,
+            Some(request) => {
+                *deed = Deed::Start {
+                    event,
+                    point: Some(self.points[request.point as usize]),
+                    value: request.value,
+                };
+                true
+            }
+            None => false,
         }
     }
 
-    /// The start of a direct server.
-    fn start_directly(&mut self, own: Option<u32>, event: u32) -> Option<Deed>
+    /// Whether a direct server may start for this key; then it has, and `deed` is the start.
+    fn start_directly(&mut self, own: Option<u32>, event: u32, deed: &mut Deed) -> bool
         requires event { event ≡ self.old.kept.event }
         requires direct { self.old.kept.served.queue ≡ None }
-        ensures { IsStart own event self.old self.new result }
+        ensures { IsStart own event self.old self.new (given result deed.new) }
     {
         match self.own_place(own) {
             Some(place) => match self.server.start_direct(place) {
-                Some(value) => Some(Deed::Start {
-                    event,
-                    point: own,
-                    value,
-                }),
-                None => None,
+                Some(value) => {
+                    *deed = Deed::Start {
+                        event,
+                        point: own,
+                        value,
+                    };
+                    true
+                }
+                None => false,
             },
-            None => None,
+            None => false,
         }
     }
 
-    /// The start by a return event.
-    fn start_return(&mut self, own: Option<u32>, event: u32) -> Option<Deed>
+    /// Whether the start by a return event may come; then it has, and `deed` is the start.
+    fn start_return(&mut self, own: Option<u32>, event: u32, deed: &mut Deed) -> bool
         requires { event ≡ self.old.kept.event → ⊥ }
-        ensures { IsStart own event self.old self.new result }
+        ensures { IsStart own event self.old self.new (given result deed.new) }
     {
         match self.awaited_at(event) {
             Some(place) => {
                 if self.server.start_return(place) {
-                    Some(Deed::Start {
+                    *deed = Deed::Start {
                         event,
                         point: None,
                         value: Value::empty(),
-                    })
+                    };
+                    true
                 } else {
-                    None
+                    false
                 }
             }
-            None => None,
+            None => false,
         }
     }
 
     /// A Return, if the actor serves a point.
-    pub(crate) fn give_back(&mut self, who: &Actor, code: Code, value: &Value) -> Acted
-        ensures { IsActed who.now (to_return code (words_of value.now)) self.old self.new result }
+    pub(crate) fn give_back(
+        &mut self,
+        who: &Actor,
+        code: Code,
+        value: &Value,
+        out: &mut Entry,
+    ) -> Filled
+        ensures { IsActed who.now (to_return code (words_of value.now)) self.old self.new (acted result out.new) }
     {
         let is_returned = match self.serving_of(who) {
             Some(place) => self.return_at(place, code, value),
             None => false,
         };
         if is_returned {
-            Acted::Done(Entry {
+            *out = Entry {
                 actor: *who,
                 deed: Deed::Return {
                     code,
                     value: *value,
                 },
-            })
+            };
+            Filled::Done
         } else {
-            Acted::NotYet(Shown::Unmatched)
+            Filled::NotYet(Shown::Unmatched)
         }
     }
 

@@ -2,18 +2,17 @@
 
 ghost use Rattle.std.specs.Prelude.{◌≡◌, ℕ, ◌<◌, length, true, false, Some, IfSome};
 ghost use Rattle.bus_semantics.specs.Common.{Contains, Plan, wanted_of};
-ghost use Rattle.bus_semantics.specs.declared.entries.Entry.{Entry};
 ghost use Rattle.object_kinds.specs.declared.acted.Shown.{Shown};
-ghost use Rattle.object_kinds.specs.declared.acted.Acted.TheVariants.{Done, NotYet};
-ghost use Rattle.object_kinds.specs.Common.{IsAnswerOf, place};
+ghost use Rattle.object_kinds.specs.declared.acted.Filled.TheVariants as filled;
+ghost use Rattle.object_kinds.specs.Common.{IsAnswerOf, acted, place};
 ghost use Rattle.server_objects.specs.Acting.{IsActed};
 ghost use Rattle.server_objects.specs.Kept.{awaited_at, has_next, may_hear, may_start};
 ghost use Rattle.server_objects.specs.Leading.{lead, own_place, serving_of, why_held, wakes};
 ghost use Rattle.server_objects.specs.Plans.{IsOfPlan};
 
-use bus_semantics::{Actor, Wish};
+use bus_semantics::{Actor, Entry, Wish};
 use client_server::Server;
-use object_kinds::{Acted, Shown, find};
+use object_kinds::{Filled, Shown, find};
 use std::marker::Model;
 
 /// A server (an operation of a P-port): by number the points that call it, its OperationInvokedEvent, and the
@@ -47,34 +46,34 @@ impl Model for ServerObject {
 }
 
 impl ServerObject {
-    /// Makes the entry of a wish on the server that it touches, if one may come (SWS_RTE: Rte_Call, Rte_Result,
+    /// Fills in the entry of a wish on the server that it touches, if one may come (SWS_RTE: Rte_Call, Rte_Result,
     /// OperationInvokedEvent, AsynchronousServerCallReturnsEvent). The wish fits its actor. A queued server starts with the request that
     /// waits longest; a direct one with that of the point of the activation's key. An Answer and a result give the Return of the point's own
-    /// request. It takes no memory. `NotYet` changes nothing. Every entry but an ask or a return leaves the list of woken events
-    /// as it was.
-    pub fn act(&mut self, who: &Actor, wish: &Wish) -> Acted
+    /// request. It takes no memory. `NotYet` changes nothing of the server. Every entry but an ask or a return leaves the list of woken
+    /// events as it was.
+    pub fn act(&mut self, who: &Actor, wish: &Wish, out: &mut Entry) -> Filled
         ensures planned { (p : Plan) (object : ℕ) → IsOfPlan p object self.old.kept → IsOfPlan p object self.new.kept }
-        ensures answer { (p : Plan) (object : ℕ) → IsOfPlan p object self.old.kept → IsAnswerOf p lead may_start why_held who.now (wanted_of wish.now) self.old.kept self.new.kept result }
-        ensures same { (shown : Shown) → result ≡ NotYet shown → self.new ≡ self.old }
+        ensures answer { (p : Plan) (object : ℕ) → IsOfPlan p object self.old.kept → IsAnswerOf p lead may_start why_held who.now (wanted_of wish.now) self.old.kept self.new.kept (acted result out.new) }
+        ensures same { (shown : Shown) → result ≡ filled.NotYet shown → self.new ≡ self.old }
         ensures told { (event : ℕ) → may_start self.old.kept event ≡ false → may_start self.new.kept event ≡ true → Contains self.new.woken event }
-        ensures only { (e : Entry) → result ≡ Done e → wakes e.deed ≡ true → (event : ℕ) → Contains self.new.woken event → (may_start self.old.kept event ≡ false) × (may_start self.new.kept event ≡ true) }
+        ensures only { result ≡ filled.Done → wakes out.new.deed ≡ true → (event : ℕ) → Contains self.new.woken event → (may_start self.old.kept event ≡ false) × (may_start self.new.kept event ≡ true) }
         ensures heard { (point : ℕ) → may_hear self.old.kept point ≡ false → may_hear self.new.kept point ≡ true → self.new.heard ≡ Some point }
-        ensures left { (e : Entry) → result ≡ Done e → wakes e.deed ≡ false → self.new.woken ≡ self.old.woken }
+        ensures left { result ≡ filled.Done → wakes out.new.deed ≡ false → self.new.woken ≡ self.old.woken }
     {
-        self.act_by_wish(who, wish)
+        self.act_by_wish(who, wish, out)
     }
 
-    /// Makes the entry of a wish, by what it wants.
-    fn act_by_wish(&mut self, who: &Actor, wish: &Wish) -> Acted
-        ensures { IsActed who.now (wanted_of wish.now) self.old self.new result }
+    /// Fills in the entry of a wish, by what it wants.
+    fn act_by_wish(&mut self, who: &Actor, wish: &Wish, out: &mut Entry) -> Filled
+        ensures { IsActed who.now (wanted_of wish.now) self.old self.new (acted result out.new) }
     {
         match wish {
-            Wish::Ask { point, value } => self.ask(who, *point, value),
-            Wish::Answer { point } => self.hear(who, *point),
-            Wish::TakeResult { point } => self.take_result(who, *point),
-            Wish::Start { event } => self.start(who, *event),
-            Wish::Return { code, value } => self.give_back(who, *code, value),
-            _ => Acted::NotYet(Shown::Unmatched),
+            Wish::Ask { point, value } => self.ask(who, *point, value, out),
+            Wish::Answer { point } => self.hear(who, *point, out),
+            Wish::TakeResult { point } => self.take_result(who, *point, out),
+            Wish::Start { event } => self.start(who, *event, out),
+            Wish::Return { code, value } => self.give_back(who, *code, value, out),
+            _ => Filled::NotYet(Shown::Unmatched),
         }
     }
 
