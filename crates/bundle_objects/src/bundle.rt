@@ -3,10 +3,9 @@
 ghost use Rattle.std.specs.Prelude.{◌≡◌, ◌<◌, ◌≤◌, ◌+◌, ℕ, [], length, slice_get, true, false, Some, IfSome};
 ghost use Rattle.bus_semantics.specs.Common.{Contains, words_of, Plan, plan_of, groups_fit, to_start, wanted_of, object_of, touched};
 ghost use Rattle.bus_semantics.specs.declared.entries.Deed.TheVariants as deed;
-ghost use Rattle.bus_semantics.specs.declared.entries.Entry.{Entry};
 ghost use Rattle.object_kinds.specs.declared.acted.Shown.{Shown};
-ghost use Rattle.object_kinds.specs.declared.acted.Acted.TheVariants.{Done, NotYet};
-ghost use Rattle.object_kinds.specs.Kinds.{IsAnswerOf};
+ghost use Rattle.object_kinds.specs.declared.acted.Filled.TheVariants as filled;
+ghost use Rattle.object_kinds.specs.Common.{IsAnswerOf, acted};
 ghost use Rattle.data_objects.specs.Acting.{group_seen};
 ghost use Rattle.data_objects.specs.Kept as groups;
 ghost use Rattle.data_objects.specs.Plans.{IsGroupOfPlan};
@@ -17,7 +16,7 @@ ghost use Rattle.bundle_objects.specs.Plans.{AreGroups, IsOfPlan};
 
 use bus_semantics::{Actor, BusPlan, Deed, Entry, Wish};
 use data_objects::Group;
-use object_kinds::{Acted, Shown, find};
+use object_kinds::{Filled, Shown, find};
 use rte_value::Value;
 use std::marker::Model;
 
@@ -51,46 +50,46 @@ impl Model for Bundle {
 }
 
 impl Bundle {
-    /// Makes the entry of a wish on the bundle that it touches, if one may come (SWS_RTE: Rte_Write, Rte_Read, Rte_Invalidate,
-    /// Rte_IsUpdated, implicit access, DataReceivedEvent). The values of a list are fetched, or published, at one moment. It takes no
-    /// memory. `NotYet` changes nothing. A publication of a list stores the words of each marked element, the last of a group's
-    /// elements last, and nothing in the groups of others. Every entry but a write or a publication leaves the list of woken
-    /// events as it was.
-    pub fn act(&mut self, p: &BusPlan, who: &Actor, wish: &Wish) -> Acted
+    /// Makes the entry of a wish on the bundle that it touches, if one may come, and fills it in at `out` (SWS_RTE: Rte_Write, Rte_Read,
+    /// Rte_Invalidate, Rte_IsUpdated, implicit access, DataReceivedEvent). The values of a list are fetched, or published, at one moment.
+    /// It takes no memory. `NotYet` changes nothing of the bundle. A publication of a list stores the words of each marked element, the
+    /// last of a group's elements last, and nothing in the groups of others. Every entry but a write or a publication leaves the list
+    /// of woken events as it was.
+    pub fn act(&mut self, p: &BusPlan, who: &Actor, wish: &Wish, out: &mut Entry) -> Filled
         requires groups { groups_fit (plan_of p.now) ≡ true }
         requires touching { object_of (plan_of p.now) who.now (wanted_of wish.now) ≡ Some (touched (plan_of p.now) who.now (wanted_of wish.now)) }
         requires planned { IsOfPlan (plan_of p.now) (touched (plan_of p.now) who.now (wanted_of wish.now)) self.old.kept }
         ensures planned { IsOfPlan (plan_of p.now) (touched (plan_of p.now) who.now (wanted_of wish.now)) self.new.kept }
-        ensures answer { IsAnswerOf (plan_of p.now) (lead (plan_of p.now)) may_start why_held who.now (wanted_of wish.now) self.old.kept self.new.kept result }
-        ensures same { (shown : Shown) → result ≡ NotYet shown → self.new ≡ self.old }
+        ensures answer { IsAnswerOf (plan_of p.now) (lead (plan_of p.now)) may_start why_held who.now (wanted_of wish.now) self.old.kept self.new.kept (acted result out.new) }
+        ensures same { (shown : Shown) → result ≡ filled.NotYet shown → self.new ≡ self.old }
         ensures told { (event : ℕ) → may_start self.old.kept event ≡ false → may_start self.new.kept event ≡ true → Contains self.new.woken event }
-        ensures only { (e : Entry) → result ≡ Done e → wakes e.deed ≡ true → (event : ℕ) → Contains self.new.woken event → (may_start self.old.kept event ≡ false) × (may_start self.new.kept event ≡ true) }
-        ensures left { (e : Entry) → result ≡ Done e → wakes e.deed ≡ false → self.new.woken ≡ self.old.woken }
+        ensures only { result ≡ filled.Done → wakes out.new.deed ≡ true → (event : ℕ) → Contains self.new.woken event → (may_start self.old.kept event ≡ false) × (may_start self.new.kept event ≡ true) }
+        ensures left { result ≡ filled.Done → wakes out.new.deed ≡ false → self.new.woken ≡ self.old.woken }
     {
-        self.act_by_wish(p, who, wish)
+        self.act_by_wish(p, who, wish, out)
     }
 
     /// Makes the entry of a wish, by what it wants.
-    fn act_by_wish(&mut self, p: &BusPlan, who: &Actor, wish: &Wish) -> Acted
+    fn act_by_wish(&mut self, p: &BusPlan, who: &Actor, wish: &Wish, out: &mut Entry) -> Filled
         requires groups { groups_fit (plan_of p.now) ≡ true }
         requires planned { IsOfPlan (plan_of p.now) (touched (plan_of p.now) who.now (wanted_of wish.now)) self.old.kept }
-        ensures { Answered (plan_of p.now) (touched (plan_of p.now) who.now (wanted_of wish.now)) who.now (wanted_of wish.now) self.old self.new result }
+        ensures { Answered (plan_of p.now) (touched (plan_of p.now) who.now (wanted_of wish.now)) who.now (wanted_of wish.now) self.old self.new (acted result out.new) }
     {
         match wish {
-            Wish::FetchAll { list } => self.fetch_all(p, who, *list),
+            Wish::FetchAll { list } => self.fetch_all(p, who, *list, out),
             Wish::PublishAll {
                 list,
                 written,
                 value,
-            } => self.publish_all(p, who, *list, *written, value),
-            Wish::Write { elem, value } => self.write(p, who, *elem, value),
-            Wish::Publish { elem, value } => self.publish(p, who, *elem, value),
+            } => self.publish_all(p, who, *list, *written, value, out),
+            Wish::Write { elem, value } => self.write(p, who, *elem, value, out),
+            Wish::Publish { elem, value } => self.publish(p, who, *elem, value, out),
             Wish::Read { elem }
             | Wish::Fetch { elem }
             | Wish::Invalidate { elem }
-            | Wish::IsUpdated { elem } => self.act_by_elem(p, *elem, who, wish),
-            Wish::Start { event } => self.start(p, *event, who, wish),
-            _ => Acted::NotYet(Shown::Unmatched),
+            | Wish::IsUpdated { elem } => self.act_by_elem(p, *elem, who, wish, out),
+            Wish::Start { event } => self.start(p, *event, who, wish, out),
+            _ => Filled::NotYet(Shown::Unmatched),
         }
     }
 
@@ -117,38 +116,59 @@ impl Bundle {
     }
 
     /// Makes the entry of a wish on the group at a place.
-    fn act_at(&mut self, p: &BusPlan, place: u32, who: &Actor, wish: &Wish) -> Acted
+    fn act_at(
+        &mut self,
+        p: &BusPlan,
+        place: u32,
+        who: &Actor,
+        wish: &Wish,
+        out: &mut Entry,
+    ) -> Filled
         requires groups { groups_fit (plan_of p.now) ≡ true }
         requires within { place < length self.old.kept.parts }
         requires planned { (group : ℕ) (part : groups.Kept) → slice_get self.old.kept.parts place ≡ Some part → group_seen (plan_of p.now) (wanted_of wish.now) ≡ Some group → IsGroupOfPlan (plan_of p.now) group part }
-        ensures { IsPartActed (plan_of p.now) place who.now (wanted_of wish.now) self.old self.new result }
+        ensures { IsPartActed (plan_of p.now) place who.now (wanted_of wish.now) self.old self.new (acted result out.new) }
     {
-        self.groups[place as usize].act_in_group(p, who, wish)
+        self.groups[place as usize].act_in_group(p, who, wish, out)
     }
 
     /// Makes the entry of a wish that reads, looks at or invalidates an element, on the element's group.
-    fn act_by_elem(&mut self, p: &BusPlan, elem: u32, who: &Actor, wish: &Wish) -> Acted
+    fn act_by_elem(
+        &mut self,
+        p: &BusPlan,
+        elem: u32,
+        who: &Actor,
+        wish: &Wish,
+        out: &mut Entry,
+    ) -> Filled
         requires groups { groups_fit (plan_of p.now) ≡ true }
         requires planned { AreGroups (plan_of p.now) self.old.kept }
         requires wish { IsOnElem (wanted_of wish.now) elem }
         ensures wish { IsOnElem (wanted_of wish.now) elem }
-        ensures acted { IsActedAt (plan_of p.now) (part_of (plan_of p.now) self.old.kept elem) who.now (wanted_of wish.now) self.old self.new result }
+        ensures acted { IsActedAt (plan_of p.now) (part_of (plan_of p.now) self.old.kept elem) who.now (wanted_of wish.now) self.old self.new (acted result out.new) }
     {
         match self.place_of(p, elem) {
-            Some(place) => self.act_at(p, place, who, wish),
-            None => Acted::NotYet(Shown::Unmatched),
+            Some(place) => self.act_at(p, place, who, wish, out),
+            None => Filled::NotYet(Shown::Unmatched),
         }
     }
 
     /// Makes the entry of the start by an event, on the group that the event waits for.
-    fn start(&mut self, p: &BusPlan, event: u32, who: &Actor, wish: &Wish) -> Acted
+    fn start(
+        &mut self,
+        p: &BusPlan,
+        event: u32,
+        who: &Actor,
+        wish: &Wish,
+        out: &mut Entry,
+    ) -> Filled
         requires groups { groups_fit (plan_of p.now) ≡ true }
         requires wish { wanted_of wish.now ≡ to_start event }
-        ensures { IsActedAt (plan_of p.now) (route self.old.kept event) who.now (wanted_of wish.now) self.old self.new result }
+        ensures { IsActedAt (plan_of p.now) (route self.old.kept event) who.now (wanted_of wish.now) self.old self.new (acted result out.new) }
     {
         match self.route(event) {
-            Some(place) => self.act_at(p, place, who, wish),
-            None => Acted::NotYet(Shown::NotDue(event)),
+            Some(place) => self.act_at(p, place, who, wish, out),
+            None => Filled::NotYet(Shown::NotDue(event)),
         }
     }
 
@@ -173,42 +193,58 @@ impl Bundle {
     }
 
     /// A write to an element.
-    fn write(&mut self, p: &BusPlan, who: &Actor, elem: u32, value: &Value) -> Acted
-        ensures { IsStored (plan_of p.now) (part_of (plan_of p.now) self.old.kept elem) value.now (record { actor = who.now; deed = deed.Write elem value.now }) self.old self.new result }
+    fn write(
+        &mut self,
+        p: &BusPlan,
+        who: &Actor,
+        elem: u32,
+        value: &Value,
+        out: &mut Entry,
+    ) -> Filled
+        ensures { IsStored (plan_of p.now) (part_of (plan_of p.now) self.old.kept elem) value.now (record { actor = who.now; deed = deed.Write elem value.now }) self.old self.new (acted result out.new) }
     {
         match self.place_of(p, elem) {
             Some(place) => {
                 self.forget();
                 self.store_at(place, value);
-                Acted::Done(Entry {
+                *out = Entry {
                     actor: *who,
                     deed: Deed::Write {
                         elem,
                         value: *value,
                     },
-                })
+                };
+                Filled::Done
             }
-            None => Acted::NotYet(Shown::Unmatched),
+            None => Filled::NotYet(Shown::Unmatched),
         }
     }
 
     /// A publication of an element.
-    fn publish(&mut self, p: &BusPlan, who: &Actor, elem: u32, value: &Value) -> Acted
-        ensures { IsStored (plan_of p.now) (part_of (plan_of p.now) self.old.kept elem) value.now (record { actor = who.now; deed = deed.Publish elem value.now }) self.old self.new result }
+    fn publish(
+        &mut self,
+        p: &BusPlan,
+        who: &Actor,
+        elem: u32,
+        value: &Value,
+        out: &mut Entry,
+    ) -> Filled
+        ensures { IsStored (plan_of p.now) (part_of (plan_of p.now) self.old.kept elem) value.now (record { actor = who.now; deed = deed.Publish elem value.now }) self.old self.new (acted result out.new) }
     {
         match self.place_of(p, elem) {
             Some(place) => {
                 self.forget();
                 self.store_at(place, value);
-                Acted::Done(Entry {
+                *out = Entry {
                     actor: *who,
                     deed: Deed::Publish {
                         elem,
                         value: *value,
                     },
-                })
+                };
+                Filled::Done
             }
-            None => Acted::NotYet(Shown::Unmatched),
+            None => Filled::NotYet(Shown::Unmatched),
         }
     }
 

@@ -2,6 +2,7 @@
 
 ghost use Rattle.std.specs.Prelude.{◌≡◌, ◌<◌, ◌≤◌, ◌+◌, ℕ, drop, length, take, None, IfSome, true};
 ghost use Rattle.bus_semantics.specs.Common.{words_of, Plan, plan_of, elems_of, marked, split, words_at, groups_fit};
+ghost use Rattle.object_kinds.specs.Common.{acted};
 ghost use Rattle.bundle_objects.specs.Acting.{Adds, IsFetched, IsPublished};
 ghost use Rattle.bundle_objects.specs.Kept.{clear_in};
 ghost use Rattle.bundle_objects.specs.Leading.{moment_in, publish, store, value_kept};
@@ -11,22 +12,25 @@ ghost use Rattle.bundle_objects.specs.Words.{value_of};
 use crate::bundle::Bundle;
 use arrayvec::ArrayVec;
 use bus_semantics::{Actor, BusPlan, Deed, Entry};
-use object_kinds::{Acted, Shown};
+use object_kinds::{Filled, Shown};
 use rte_value::{MOST_WORDS, Value, Word};
 
 impl Bundle {
     /// A fetch of a list. There is none if its values together have more words than a value may have.
-    pub(crate) fn fetch_all(&self, p: &BusPlan, who: &Actor, list: u32) -> Acted
+    pub(crate) fn fetch_all(&self, p: &BusPlan, who: &Actor, list: u32, out: &mut Entry) -> Filled
         requires groups { groups_fit (plan_of p.now) ≡ true }
         requires planned { AreGroups (plan_of p.now) self.now.kept }
-        ensures { IsFetched (plan_of p.now) who.now list self.now.kept result }
+        ensures { IsFetched (plan_of p.now) who.now list self.now.kept (acted result out.new) }
     {
         match self.moment(p, p.elems_of(list)) {
-            Some(value) => Acted::Done(Entry {
-                actor: *who,
-                deed: Deed::FetchAll { list, value },
-            }),
-            None => Acted::NotYet(Shown::Unmatched),
+            Some(value) => {
+                *out = Entry {
+                    actor: *who,
+                    deed: Deed::FetchAll { list, value },
+                };
+                Filled::Done
+            }
+            None => Filled::NotYet(Shown::Unmatched),
         }
     }
 
@@ -71,19 +75,21 @@ impl Bundle {
         list: u32,
         written: u16,
         value: &Value,
-    ) -> Acted
-        ensures { IsPublished (plan_of p.now) who.now list written value.now self.old self.new result }
+        out: &mut Entry,
+    ) -> Filled
+        ensures { IsPublished (plan_of p.now) who.now list written value.now self.old self.new (acted result out.new) }
     {
         self.forget();
         self.publish_marked(p, p.elems_of(list), written, value.words());
-        Acted::Done(Entry {
+        *out = Entry {
             actor: *who,
             deed: Deed::PublishAll {
                 list,
                 written,
                 value: *value,
             },
-        })
+        };
+        Filled::Done
     }
 
     /// Stores the words of each marked element in its group, in the order of the elements.
