@@ -1,4 +1,5 @@
 pub mod ActorTexts
+mod ByKind
 pub mod Callers
 pub mod Cutting
 pub mod DeedTexts

@@ -1,5 +1,6 @@
 -- What has names in a plan, and tables of them.
-use Rattle.std.specs.Prelude.{◌≡◌, ℕ, List, map, Bool, false, ◌&&◌, bytes_eq, nat_eq, if◌then◌else◌, Option, Some, None}
+use Rattle.std.specs.Prelude.{◌≡◌, ℕ, List, [], ◌∷◌, get_or, map, Bool, false, ◌&&◌, bytes_eq, nat_eq, if◌then◌else◌, Option, Some, None}
+use Rattle.std.specs.List.{AllZip}
 use Rattle.bus_semantics.specs.Common.{Bor, position, option_eq, same_number, Plan, Runnable, instance_of, look, Letters}
 use Rattle.indexmap.specs.IndexMap.{IndexMap, get}
 use Rattle.bus_laws.specs.Common.{AreaPlan, ElemPlan, EventPlan, MachinePlan, ModePortPlan, PointPlan}
@@ -62,6 +63,29 @@ same_key a b = option_eq nat_eq a.0 b.0 && bytes_eq a.1.now b.1.now
 -- the table has for each key the first thing of the kind that goes by it
 abbrev pub IsTable : {S : Type 0} → Kind → Plan → IndexMap Key ℕ S → Type 0
 IsTable k p m = (q : Key) → get same_key m q ≡ first_of k p q.0 q.1.now
+
+-- the kinds in the order in which their tables are kept
+abbrev pub kinds : List Kind
+kinds = Instance ∷ a_runnable ∷ Elem ∷ Point ∷ Result ∷ Area ∷ Machine ∷ ModePort ∷ Event ∷ []
+
+abbrev pub number_of : Kind → ℕ
+number_of Instance = 0
+number_of a_runnable = 1
+number_of Elem = 2
+number_of Point = 3
+number_of Result = 4
+number_of Area = 5
+number_of Machine = 6
+number_of ModePort = 7
+number_of Event = 8
+
+-- these are tables of these kinds, in their order
+abbrev pub AreTables : {S : Type 0} → Plan → List Kind → List (IndexMap Key ℕ S) → Type 0
+AreTables p ks tables = AllZip (λ k m. IsTable k p m) ks tables
+
+-- each kind finds its table
+abbrev pub HasTables : {S : Type 0} → Plan → List (IndexMap Key ℕ S) → Type 0
+HasTables {S} p tables = (k : Kind) (m : IndexMap Key ℕ S) → IsTable k p (get_or tables (number_of k) m)
 
 -- the table was given the place under this key, if there is one, and else is the same
 abbrev pub IsNoted : {S : Type 0} → Option Key → ℕ → IndexMap Key ℕ S → IndexMap Key ℕ S → Type 0

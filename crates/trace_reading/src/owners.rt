@@ -1,8 +1,9 @@
 //! Whose names are whose. `home` is an instance, or None for the outer ports.
 
-ghost use Rattle.std.specs.Prelude.{◌≡◌, ◌&&◌, not};
+ghost use Rattle.std.specs.Prelude.{◌≡◌, ◌&&◌, Bool, false, not};
 ghost use Rattle.bus_semantics.specs.Common.{words_of, plan_of, area_fits, elem_fits, event_fits, holds, is_queued, is_readable, is_unqueued, is_writable, key_fits, mode_port_fits};
-ghost use Rattle.bus_semantics.specs.Common.{own_point, result_point, serves_directly, switch_fits};
+ghost use Rattle.bus_semantics.specs.Common.{option_copied, option_map_or, own_point, result_point, serves_directly, switch_fits};
+ghost use Rattle.bus_laws.specs.Common.{ElemPlan};
 
 use crate::looking::{caller_of, queue_of, runnable_of_event, served_by};
 use bus_semantics::{BusPlan, ElemKind, ElemPlan};
@@ -80,12 +81,24 @@ fn holds(value: &Value, element: &ElemPlan) -> bool
     value.words().len() == element.words as usize
 }
 
+/// The element of this number, if it is the home's.
+fn own_element(p: &BusPlan, home: Option<u32>, elem: u32) -> Option<&ElemPlan>
+    ensures { (test : ElemPlan → Bool) → elem_fits (plan_of p.now) home test elem ≡ option_map_or test (option_copied result) false }
+{
+    let element = p.elements.items().get(elem as usize)?;
+    if same_number(element.instance, home) {
+        Some(element)
+    } else {
+        None
+    }
+}
+
 /// Whether the element is the home's, and readable.
 pub fn may_be_read(p: &BusPlan, home: Option<u32>, elem: u32) -> bool
     ensures { result ≡ elem_fits (plan_of p.now) home is_readable elem }
 {
-    match p.elements.items().get(elem as usize) {
-        Some(element) => same_number(element.instance, home) && is_readable(element),
+    match own_element(p, home, elem) {
+        Some(element) => is_readable(element),
         None => false,
     }
 }
@@ -94,10 +107,8 @@ pub fn may_be_read(p: &BusPlan, home: Option<u32>, elem: u32) -> bool
 pub fn may_be_written(p: &BusPlan, home: Option<u32>, elem: u32, value: &Value) -> bool
     ensures { result ≡ elem_fits (plan_of p.now) home (λ e. is_writable e && holds (words_of value.now) e) elem }
 {
-    match p.elements.items().get(elem as usize) {
-        Some(element) => {
-            same_number(element.instance, home) && (is_writable(element) && holds(value, element))
-        }
+    match own_element(p, home, elem) {
+        Some(element) => is_writable(element) && holds(value, element),
         None => false,
     }
 }
@@ -106,10 +117,8 @@ pub fn may_be_written(p: &BusPlan, home: Option<u32>, elem: u32, value: &Value) 
 pub fn is_provided(p: &BusPlan, home: Option<u32>, elem: u32) -> bool
     ensures { result ≡ elem_fits (plan_of p.now) home (λ e. is_unqueued e && e.provided) elem }
 {
-    match p.elements.items().get(elem as usize) {
-        Some(element) => {
-            same_number(element.instance, home) && (is_unqueued(element) && element.provided)
-        }
+    match own_element(p, home, elem) {
+        Some(element) => is_unqueued(element) && element.provided,
         None => false,
     }
 }
@@ -118,11 +127,8 @@ pub fn is_provided(p: &BusPlan, home: Option<u32>, elem: u32) -> bool
 pub fn takes(p: &BusPlan, home: Option<u32>, elem: u32, value: &Value) -> bool
     ensures { result ≡ elem_fits (plan_of p.now) home (λ e. (is_unqueued e && e.provided) && holds (words_of value.now) e) elem }
 {
-    match p.elements.items().get(elem as usize) {
-        Some(element) => {
-            same_number(element.instance, home)
-                && (is_unqueued(element) && element.provided && holds(value, element))
-        }
+    match own_element(p, home, elem) {
+        Some(element) => is_unqueued(element) && element.provided && holds(value, element),
         None => false,
     }
 }
@@ -131,10 +137,8 @@ pub fn takes(p: &BusPlan, home: Option<u32>, elem: u32, value: &Value) -> bool
 pub fn is_required(p: &BusPlan, home: Option<u32>, elem: u32) -> bool
     ensures { result ≡ elem_fits (plan_of p.now) home (λ e. is_unqueued e && not e.provided) elem }
 {
-    match p.elements.items().get(elem as usize) {
-        Some(element) => {
-            same_number(element.instance, home) && (is_unqueued(element) && !element.provided)
-        }
+    match own_element(p, home, elem) {
+        Some(element) => is_unqueued(element) && !element.provided,
         None => false,
     }
 }
@@ -143,11 +147,8 @@ pub fn is_required(p: &BusPlan, home: Option<u32>, elem: u32) -> bool
 pub fn may_be_sent(p: &BusPlan, home: Option<u32>, elem: u32, value: &Value) -> bool
     ensures { result ≡ elem_fits (plan_of p.now) home (λ e. (is_queued e && e.provided) && holds (words_of value.now) e) elem }
 {
-    match p.elements.items().get(elem as usize) {
-        Some(element) => {
-            same_number(element.instance, home)
-                && (is_queued(element) && element.provided && holds(value, element))
-        }
+    match own_element(p, home, elem) {
+        Some(element) => is_queued(element) && element.provided && holds(value, element),
         None => false,
     }
 }
@@ -156,10 +157,8 @@ pub fn may_be_sent(p: &BusPlan, home: Option<u32>, elem: u32, value: &Value) -> 
 pub fn may_be_received(p: &BusPlan, home: Option<u32>, elem: u32) -> bool
     ensures { result ≡ elem_fits (plan_of p.now) home (λ e. is_queued e && not e.provided) elem }
 {
-    match p.elements.items().get(elem as usize) {
-        Some(element) => {
-            same_number(element.instance, home) && (is_queued(element) && !element.provided)
-        }
+    match own_element(p, home, elem) {
+        Some(element) => is_queued(element) && !element.provided,
         None => false,
     }
 }

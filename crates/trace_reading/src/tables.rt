@@ -1,11 +1,12 @@
 //! Tables in which names are found by hash.
 
-ghost use Rattle.std.specs.Prelude.{◌≡◌, IfOk, OnOk, length, position};
+ghost use Rattle.std.specs.Prelude.{◌≡◌, ◌<◌, [], ◌∷◌, ◌++◌, IfOk, List, OnOk, length, position};
 ghost use Rattle.indexmap.specs.IndexMap.{get};
 ghost use Rattle.bus_semantics.specs.Plan.{plan_of};
 ghost use Rattle.line_fields.specs.Named.{is_area, is_elem, is_event, is_machine, is_mode_port, is_point, is_runnable, is_text};
 ghost use Rattle.trace_reading.specs.Finding.{is_result};
-ghost use Rattle.trace_reading.specs.Tables.{IsNoted, IsTable, first_of, label_at, label_of, labels, result_label, same_key};
+ghost use Rattle.trace_reading.specs.Tables.{AreTables, HasTables, IsNoted, IsTable, first_of, label_at, label_of, labels, number_of, result_label, same_key};
+ghost use Rattle.trace_reading.specs.declared.tables.Kind.{Kind};
 ghost use Rattle.trace_reading.specs.declared.tables.Kind.TheVariants.{Area, Elem, Event, Instance, Machine, ModePort, Point, Result, Runnable};
 
 use crate::looking::home_of_caller;
@@ -207,80 +208,69 @@ fn find<'a>(table: &'a IndexMap<Key<'a>, usize>, key: Key<'a>) -> Option<usize>
     table.get(&key).copied()
 }
 
-/// What instances have, by name.
-#[derive(Drop)]
-struct Owned<'p> {
-    plan: &'p BusPlan,
-    elements: IndexMap<Key<'p>, usize>,
-    areas: IndexMap<Key<'p>, usize>,
-    machines: IndexMap<Key<'p>, usize>,
-    mode_ports: IndexMap<Key<'p>, usize>,
-    ghost has_elements: { IsTable Elem (plan_of plan.now) elements },
-    ghost has_areas: { IsTable Area (plan_of plan.now) areas },
-    ghost has_machines: { IsTable Machine (plan_of plan.now) machines },
-    ghost has_mode_ports: { IsTable ModePort (plan_of plan.now) mode_ports },
+/// Where the table of a kind stands among those of a plan.
+fn number_of(kind: Kind) -> usize
+    ensures number { result ≡ number_of kind }
+    ensures few { result < 9 }
+{
+    match kind {
+        Kind::Instance => 0,
+        Kind::Runnable => 1,
+        Kind::Elem => 2,
+        Kind::Point => 3,
+        Kind::Result => 4,
+        Kind::Area => 5,
+        Kind::Machine => 6,
+        Kind::ModePort => 7,
+        Kind::Event => 8,
+    }
 }
 
-/// What runs and calls, by name.
-#[derive(Drop)]
-struct Running<'p> {
+/// Adds the table of a kind behind those of others.
+fn add_table<'p>(
+    alloc: Global,
     plan: &'p BusPlan,
-    runnables: IndexMap<Key<'p>, usize>,
-    events: IndexMap<Key<'p>, usize>,
-    points: IndexMap<Key<'p>, usize>,
-    results: IndexMap<Key<'p>, usize>,
-    ghost has_runnables: { IsTable Runnable (plan_of plan.now) runnables },
-    ghost has_events: { IsTable Event (plan_of plan.now) events },
-    ghost has_points: { IsTable Point (plan_of plan.now) points },
-    ghost has_results: { IsTable Result (plan_of plan.now) results },
+    kind: Kind,
+    tables: &mut Vec<IndexMap<Key<'p>, usize>>,
+) -> Result<(), Memory>
+    ensures { OnOk result ((ks : List Kind) → AreTables (plan_of plan.now) ks tables.old.items → AreTables (plan_of plan.now) (ks ++ kind ∷ []) tables.new.items) }
+{
+    let table = table_of(alloc, plan, kind)?;
+    tables.push(table)?;
+    Ok(())
+}
+
+/// Adds the tables of all kinds to no tables.
+fn add_tables<'p>(
+    alloc: Global,
+    plan: &'p BusPlan,
+    tables: &mut Vec<IndexMap<Key<'p>, usize>>,
+) -> Result<(), Memory>
+    requires { tables.old.items ≡ [] }
+    ensures all_kinds { OnOk result (length tables.new.items ≡ 9) }
+    ensures has_tables { OnOk result (HasTables (plan_of plan.now) tables.new.items) }
+{
+    add_table(alloc, plan, Kind::Instance, tables)?;
+    add_table(alloc, plan, Kind::Runnable, tables)?;
+    add_table(alloc, plan, Kind::Elem, tables)?;
+    add_table(alloc, plan, Kind::Point, tables)?;
+    add_table(alloc, plan, Kind::Result, tables)?;
+    add_table(alloc, plan, Kind::Area, tables)?;
+    add_table(alloc, plan, Kind::Machine, tables)?;
+    add_table(alloc, plan, Kind::ModePort, tables)?;
+    add_table(alloc, plan, Kind::Event, tables)?;
+    Ok(())
 }
 
 /// The names of a plan, each found by hash.
 #[derive(Drop)]
 pub struct Tables<'p> {
     pub plan: &'p BusPlan,
-    instances: IndexMap<Key<'p>, usize>,
-    owned: Owned<'p>,
-    running: Running<'p>,
-    ghost has_instances: { IsTable Instance (plan_of plan.now) instances },
-    ghost has_owned: { owned.plan.now ≡ plan.now },
-    ghost has_running: { running.plan.now ≡ plan.now },
-}
-
-impl<'p> Owned<'p> {
-    fn of(alloc: Global, plan: &'p BusPlan) -> Result<Owned<'p>, Memory>
-        ensures { IfOk result (λ owned. owned.plan.now ≡ plan.now) }
-    {
-        let elements = table_of(alloc, plan, Kind::Elem)?;
-        let areas = table_of(alloc, plan, Kind::Area)?;
-        let machines = table_of(alloc, plan, Kind::Machine)?;
-        let mode_ports = table_of(alloc, plan, Kind::ModePort)?;
-        Ok(Owned {
-            plan,
-            elements,
-            areas,
-            machines,
-            mode_ports,
-        })
-    }
-}
-
-impl<'p> Running<'p> {
-    fn of(alloc: Global, plan: &'p BusPlan) -> Result<Running<'p>, Memory>
-        ensures { IfOk result (λ running. running.plan.now ≡ plan.now) }
-    {
-        let runnables = table_of(alloc, plan, Kind::Runnable)?;
-        let events = table_of(alloc, plan, Kind::Event)?;
-        let points = table_of(alloc, plan, Kind::Point)?;
-        let results = table_of(alloc, plan, Kind::Result)?;
-        Ok(Running {
-            plan,
-            runnables,
-            events,
-            points,
-            results,
-        })
-    }
+    /// A table of each kind, in the order of `number_of`. They are in one list, which is dropped by one call, where nine fields are dropped
+    /// one by one at each way out.
+    by_kind: Vec<IndexMap<Key<'p>, usize>>,
+    ghost all_kinds: { length by_kind.items ≡ 9 },
+    ghost has_tables: { HasTables (plan_of plan.now) by_kind.items },
 }
 
 impl<'p> Tables<'p> {
@@ -288,34 +278,30 @@ impl<'p> Tables<'p> {
     pub fn new(alloc: Global, plan: &'p BusPlan) -> Result<Tables<'p>, Memory>
         ensures { IfOk result (λ tables. tables.plan.now ≡ plan.now) }
     {
-        let instances = table_of(alloc, plan, Kind::Instance)?;
-        let owned = Owned::of(alloc, plan)?;
-        let running = Running::of(alloc, plan)?;
-        Ok(Tables {
-            plan,
-            instances,
-            owned,
-            running,
-        })
+        let mut by_kind = Vec::with_capacity(alloc, 9)?;
+        match add_tables(alloc, plan, &mut by_kind) {
+            Ok(()) => Ok(Tables { plan, by_kind }),
+            Err(memory) => {
+                drop(by_kind);
+                Err(memory)
+            }
+        }
+    }
+
+    /// The table of the things of the kind.
+    fn table(&self, kind: Kind) -> &IndexMap<Key<'p>, usize>
+        ensures { IsTable kind (plan_of self.now.plan.now) result.now }
+    {
+        &self.by_kind[number_of(kind)]
     }
 
     /// The place of the first thing of the kind with this key.
     fn find(&self, kind: Kind, home: Option<usize>, name: &[u8]) -> Option<usize>
         ensures { result ≡ first_of kind (plan_of self.now.plan.now) home name.now }
     {
-        let key = (home, name);
-        match kind {
-            Kind::Instance => find(&self.instances, key),
-            Kind::Runnable => find(&self.running.runnables, key),
-            Kind::Elem => find(&self.owned.elements, key),
-            Kind::Point => find(&self.running.points, key),
-            Kind::Result => find(&self.running.results, key),
-            Kind::Area => find(&self.owned.areas, key),
-            Kind::Machine => find(&self.owned.machines, key),
-            Kind::ModePort => find(&self.owned.mode_ports, key),
-            Kind::Event => find(&self.running.events, key),
-        }
+        find(self.table(kind), (home, name))
     }
+
     /// Where the first instance of this path stands.
     pub fn instance(&self, path: &[u8]) -> Option<usize>
         ensures { result ≡ position (is_text path.now) (plan_of self.now.plan.now).names }
