@@ -3,10 +3,10 @@ use Rattle.std.proofs.Common.{◌≡◌, ◌∷◌, ℕ, Bool, true, refl, sym, 
 use Rattle.std.specs.Prelude.{option_map}
 use Rattle.bus_semantics.specs.Common.{false≢true, Plan, Wanted, Noted, Past, object_of, touched, wish_fits, noted_for, asks_its_own, MayCome, NoneMayCome, Follows, IsSound}
 use Rattle.bus_laws.specs.Common.{Mapping, Actor, Entry}
-use Rattle.object_kinds.specs.declared.acted.Acted.{Acted}
-use Rattle.object_kinds.specs.declared.acted.Acted.TheVariants.{Done, NotYet}
+use Rattle.object_kinds.specs.declared.acted.Filled.{Filled}
+use Rattle.object_kinds.specs.declared.acted.Filled.TheVariants as filled
 use Rattle.object_kinds.specs.declared.acted.Shown.{Shown}
-use Rattle.object_kinds.specs.Kinds.{IsAnswerOf}
+use Rattle.object_kinds.specs.Kinds.{IsAnswerOf, acted}
 use Rattle.port_objects.specs.Common.{Object, Kept, lead, kept_of, Stands, may_start_in, Tells, TellsPoint, why_held, IsMade, IsHeld, IsAnswer, MayAsk, IsTheOne}
 use Rattle.port_objects.proofs.Gate.{opens, stays_shut}
 use Rattle.port_objects.proofs.Rows.{Row}
@@ -14,9 +14,9 @@ use Rattle.port_objects.proofs.Asking.{made_touches, made_proper}
 
 module _ {K : Type 0} (p : Plan) (a : Actor) (w : Wanted) (of : K → Kept) (keeps : K → Past → Type 0) (kind_leads : K → Noted → Option K) (flag : K → ℕ → Bool) (why : K → Wanted → Shown)
     (row : Row p (touched p a w) of keeps kind_leads flag why) where
-  pub answered : object_of p a w ≡ Some (touched p a w) → wish_fits p a w ≡ true → asks_its_own p a w ≡ true → (old new : Object) (before after : K) (r : Acted) → kept_of old ≡ of before → kept_of new ≡ of after
-      → IsAnswerOf p kind_leads flag why a w before after r → ((shown : Shown) → r ≡ NotYet shown → new ≡ old) → Tells (kept_of old) new → TellsPoint (kept_of old) new → IsAnswer p (touched p a w) a w old new r
-  answered touching fits own old new before after (Done e) was is made same told heard =
+  pub answered : object_of p a w ≡ Some (touched p a w) → wish_fits p a w ≡ true → asks_its_own p a w ≡ true → (old new : Object) (before after : K) (r : Filled) (out : Entry) → kept_of old ≡ of before → kept_of new ≡ of after
+      → IsAnswerOf p kind_leads flag why a w before after (acted r out) → ((shown : Shown) → r ≡ filled.NotYet shown → new ≡ old) → Tells (kept_of old) new → TellsPoint (kept_of old) new → IsAnswer p (touched p a w) a w old new (acted r out)
+  answered touching fits own old new before after filled.Done e was is made same told heard =
       let touches_it = made_touches p a w e made.actor made.wish touching in
       let proper = made_proper p a w e made.actor made.wish fits own made.answer in
       record {
@@ -31,7 +31,7 @@ module _ {K : Type 0} (p : Plan) (a : Actor) (w : Wanted) (of : K → Kept) (kee
         told = told;
         heard = heard;
       }
-  answered touching fits own old new before after (NotYet shown) was is (shows, stays, held) same told heard = record {
+  answered touching fits own old new before after (filled.NotYet shown) out was is (shows, stays, held) same told heard = record {
     why = shows ∙ sym (row.shows before w) ∙ ap (λ k. why_held k w) (sym was);
     same = same shown refl;
     none = λ n who wish. ap (λ k. lead p (touched p a w) k n) was ∙ stays_shut p (touched p a w) (of before) n (row.leads before n ∙ ap (option_map of) (held.none n who wish));

@@ -1,9 +1,12 @@
 -- One entry on an object among all.
-use Rattle.std.proofs.Common.{◌≡◌, ℕ, zero, suc, ◌+◌, ◌<◌, ◌==◌, refl, sym, ◌∙◌, ap, subst, arith, List, [], ◌∷◌, length, get_or, Some}
+use Rattle.std.proofs.Common.{◌≡◌, ℕ, zero, suc, ◌+◌, ◌-◌, ◌<◌, ◌==◌, refl, sym, ◌∙◌, ap, subst, arith, List, [], ◌∷◌, length, get_or, Some, None}
 use Rattle.std.specs.Prelude.{set, unwrap_or}
-use Rattle.bus_semantics.specs.Common.{slice_get, slice_get-get_or, and_parts, eqb-true, length-set, Plan, Wanted, clock, object_of, touched, IsObject}
+use Rattle.bus_semantics.specs.Common.{slice_get, slice_get-get_or, and_parts, eqb-true, length-set, Plan, Wanted, event_of, clock, object_of, touched, IsObject}
 use Rattle.bus_semantics.specs.declared.entries.Actor.{Actor}
-use Rattle.port_objects.specs.Common.{Object, IsOfPlan, ArePlans, HasObjects, IsAnswer, ActedOn}
+use Rattle.bus_semantics.specs.declared.entries.Entry.{Entry}
+use Rattle.port_objects.specs.declared.bench.Benched.TheVariants.{Done, NotYet}
+use Rattle.port_objects.specs.Common.{Object, IsOfPlan, ArePlans, HasObjects, IsAnswer, ActedOn, IsActed, Plain, Told}
+use Rattle.object_kinds.specs.declared.acted.Shown.{Shown}
 use Rattle.object_kinds.specs.declared.acted.Acted.{Acted}
 use Rattle.object_kinds.specs.declared.acted.Acted.TheVariants as acted
 use Rattle.object_kinds.proofs.Lists.{set_same}
@@ -51,3 +54,22 @@ acted_on p n a w objects before now (acted.NotYet shown) found held = record {
   held = record { why = held.why; same = refl; none = held.none; flag = held.flag };
   same = ap (λ xs. Some xs) (ap (set objects n) held.same ∙ set_same objects n before found);
 }
+
+-- ---- what a plain bench tells after a wish on an object
+
+abbrev pub told_by : Plain → Told
+told_by b = record { room = b.room; next = Some b.next; objects = Some b.objects; work = None }
+
+pub plain_made : (p : Plan) (n : ℕ) (a : Actor) (w : Wanted) (e : Entry) (old new : Plain) → 0 < old.room → ActedOn p n a w old.objects new.objects (acted.Done e)
+    → new.room ≡ old.room - 1 → new.next ≡ suc old.next → IsActed p n a w (told_by old) (told_by new) (Done (record { stamp = old.next; entry = e; event = event_of w }))
+plain_made p n a w e old new some on room next = record {
+  entry = record { actor = on.made.actor; wish = on.made.wish; answer = on.made.answer; event = refl };
+  room = omega (arith, some, room);
+  next = (refl, ap (λ (i : ℕ). Some i) next);
+  objects = on;
+  work = refl;
+}
+
+pub plain_held : (p : Plan) (n : ℕ) (a : Actor) (w : Wanted) (shown : Shown) (old new : Plain) → ActedOn p n a w old.objects new.objects (acted.NotYet shown)
+    → new.room ≡ old.room → new.next ≡ old.next → IsActed p n a w (told_by old) (told_by new) (NotYet shown)
+plain_held p n a w shown old new on room next = record { entry = tt; room = room; next = ap (λ (i : ℕ). Some i) next; objects = on; work = refl }

@@ -1,7 +1,8 @@
 -- What `act` answers, by the lead: the entry of the wish by which what the object kept leads to what it keeps, or that no entry of the
 -- actor and of the wish leads anywhere.
 use Rattle.std.specs.Prelude.{◌≡◌, ℕ, true, false, Some, None, unwrap_or}
-use Rattle.bus_laws.specs.Common.{Actor, Act, Entry}
+use Rattle.bus_laws.specs.Common.{Actor, Env, Act, Entry}
+use Rattle.bus_semantics.specs.declared.entries.Deed.TheVariants.{Tick}
 use Rattle.bus_semantics.specs.Common.{Plan, Noted, Wanted, to_start, wanted_by, answer_fits, plain_key, event_of, noted_for}
 use Rattle.object_kinds.specs.declared.acted.Acted.{Acted}
 use Rattle.object_kinds.specs.declared.acted.Acted.TheVariants.{Done, NotYet}
@@ -49,3 +50,7 @@ pub record IsHeld (p : Plan) (object : ℕ) (a : Actor) (w : Wanted) (old new : 
 abbrev pub IsAnswer : Plan → (object : ℕ) → Actor → Wanted → (old new : Object) → Acted → Type 0
 IsAnswer p object a w old new (Done e) = IsMade p object a w old new e
 IsAnswer p object a w old new (NotYet shown) = IsHeld p object a w old new shown
+
+-- the entry of a tick: the environment alone makes one
+abbrev pub tick_of_env : Entry
+tick_of_env = record { actor = Env; deed = Tick }

@@ -1,5 +1,5 @@
 -- The names that proofs and the crates above cite, passed on from one place. Declares nothing.
-pub use Rattle.port_objects.specs.Answers.{IsAnswer, IsHeld, IsMade, why_held}
+pub use Rattle.port_objects.specs.Answers.{IsAnswer, IsHeld, IsMade, tick_of_env, why_held}
 pub use Rattle.port_objects.specs.Benches.{ActedOn, Further, IsActed, IsAsked, IsFurther, IsStamped, IsStampedFor, IsWritten, MadeOn, ObjectsAfter, Plain, StampAfter, Told, Work, benched}
 pub use Rattle.port_objects.specs.Benches.{stamped_alone, written_last}
 pub use Rattle.port_objects.specs.Coming.{IsTheOne, MayAsk}

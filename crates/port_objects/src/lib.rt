@@ -43,7 +43,8 @@
 //!
 //! **Who writes an entry down?** The bench, at the end of a list that the caller passes (`act_into`, `stamp_into`): an entry is
 //! large, and an answer that carries it is copied by each function that it passes through. A turn then hands on where the entry
-//! is. The bodies that stand in the trait go by `act` and `stamp`, so a bench needs only these two.
+//! is. The bodies that stand in the trait go by `act` and `stamp`, so a bench needs only these two. For the same reason the entry of a
+//! wish is filled in where it is to lie (`act_in_place`), and a tick, whose entry is always the same, has a call without one (`tick`).
 //!
 //! **Which objects are there?** Those whose entries code makes: groups of unqueued elements that no coherent list touches, bundles
 //! that lists touch, groups of queued elements, servers, areas, mode machines, and the clock. That is every kind that the
@@ -69,7 +70,7 @@ mod touching;
 mod waking;
 mod writing;
 
-pub use acting::act;
+pub use acting::{act, act_in_place, tick};
 pub use bench::{Answered, Bench, Benched};
 pub use bus_semantics::object_of;
 pub use closing::{areas_are_closed_alike, only_a_leave_opens};
@@ -80,7 +81,7 @@ pub use laws::{
 };
 pub use making::make_objects;
 pub use object::Object;
-pub use object_kinds::{Acted, Shown};
+pub use object_kinds::{Acted, Filled, Shown};
 pub use plain_bench::PlainBench;
 pub use touching::{machine_of, touched_object};
 pub use waking::{

@@ -2,14 +2,17 @@
 
 ghost use Rattle.std.specs.Prelude.{◌≡◌, ◌<◌, ◌-◌, ◌++◌, suc, [], ◌∷◌, length};
 ghost use Rattle.bus_semantics.specs.Common.{vec_capacity, plan_of, wanted_of, event_of};
+ghost use Rattle.bus_laws.specs.Common.{Entry};
+ghost use Rattle.object_kinds.specs.Common.{acted};
 ghost use Rattle.port_objects.specs.Objects.{ArePlans};
 ghost use Rattle.port_objects.specs.Plans.{HasObjects};
+ghost use Rattle.port_objects.specs.Benches.{IsAsked, ActedOn};
 
 use crate::among::act_among;
 use crate::bench::{Answered, Bench, Benched};
 use crate::object::Object;
 use bus_semantics::{Actor, BusPlan, Deed, Entry, Stamped, Wish};
-use object_kinds::Acted;
+use object_kinds::Filled;
 use std::marker::Model;
 
 /// All objects of a plan, which one thread has to itself. It tells its objects and its next stamp, which begins
@@ -84,20 +87,42 @@ impl<'a> PlainBench<'a> {
         stamp
     }
 
-    /// Writes the entry down with the next stamp.
-    fn write(&mut self, entry: &Entry, event: Option<u32>, made: &mut Vec<Stamped>)
-        requires room { 0 < self.old.room }
+    /// Makes the entry of a wish on the object of this number, if one may come, behind the others in this list and with the next stamp,
+    /// which is not taken yet. If none may come, what is written behind the others is no entry.
+    fn act_behind(
+        &mut self,
+        object: u32,
+        who: &Actor,
+        wish: &Wish,
+        made: &mut Vec<Stamped>,
+    ) -> Filled
+        requires asked { IsAsked (plan_of self.old.plan) object who.now (wanted_of wish.now) }
         requires space { length made.old.items < vec_capacity made.old }
+        ensures plan { self.new.plan ≡ self.old.plan }
+        ensures room { self.new.room ≡ self.old.room }
+        ensures next { self.new.next ≡ self.old.next }
         ensures capacity { vec_capacity made.new ≡ vec_capacity made.old }
-        ensures written { made.new.items ≡ made.old.items ++ record { stamp = self.old.next; entry = entry.now; event = event } ∷ [] }
-        ensures bench { self.new ≡ record { plan = self.old.plan; objects = self.old.objects; room = self.old.room - 1; next = suc self.old.next } }
+        ensures made { (e : Entry) × (made.new.items ≡ made.old.items ++ record { stamp = self.old.next; entry = e; event = event_of (wanted_of wish.now) } ∷ [])
+            × ActedOn (plan_of self.old.plan) object who.now (wanted_of wish.now) self.old.objects self.new.objects (acted result e) }
     {
-        let stamp = self.take_stamp();
+        let at = made.len();
         made.push_reserved(Stamped {
-            stamp,
-            entry: *entry,
-            event,
+            stamp: self.next,
+            entry: Entry {
+                actor: Actor::Env,
+                deed: Deed::Tick,
+            },
+            event: event_of(wish),
         });
+        let stamped = &mut made[at];
+        act_among(
+            self.plan,
+            &mut self.objects,
+            object,
+            who,
+            wish,
+            &mut stamped.entry,
+        )
     }
 }
 
@@ -124,13 +149,17 @@ impl<'a> Bench for PlainBench<'a> {
     ghost told = { λ b. record { room = b.room; next = Some b.next; objects = Some b.objects; work = None } };
 
     fn act(&mut self, object: u32, who: &Actor, wish: &Wish) -> Benched {
-        match act_among(self.plan, &mut self.objects, object, who, wish) {
-            Acted::Done(entry) => Benched::Done(Stamped {
+        let mut entry = Entry {
+            actor: *who,
+            deed: Deed::Tick,
+        };
+        match act_among(self.plan, &mut self.objects, object, who, wish, &mut entry) {
+            Filled::Done => Benched::Done(Stamped {
                 stamp: self.take_stamp(),
                 entry,
                 event: event_of(wish),
             }),
-            Acted::NotYet(shown) => Benched::NotYet(shown),
+            Filled::NotYet(shown) => Benched::NotYet(shown),
         }
     }
 
@@ -146,12 +175,16 @@ impl<'a> Bench for PlainBench<'a> {
         wish: &Wish,
         made: &mut Vec<Stamped>,
     ) -> Answered {
-        match act_among(self.plan, &mut self.objects, object, who, wish) {
-            Acted::Done(ref entry) => {
-                self.write(entry, event_of(wish), made);
+        let before = made.len();
+        match self.act_behind(object, who, wish, made) {
+            Filled::Done => {
+                self.take_stamp();
                 Answered::Made
             }
-            Acted::NotYet(shown) => Answered::NotYet(shown),
+            Filled::NotYet(shown) => {
+                made.truncate(before);
+                Answered::NotYet(shown)
+            }
         }
     }
 

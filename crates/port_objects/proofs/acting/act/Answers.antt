@@ -1,22 +1,13 @@
-use Rattle.std.proofs.Common.{subst}
-use Rattle.bus_semantics.specs.Common.{plan_of, wanted_of, touched}
-use Rattle.port_objects.specs.Answers.{IsAnswer}
+use Rattle.std.proofs.Common.{◌≡◌, refl, subst}
+use Rattle.bus_semantics.specs.Common.{plan_of, wanted_of}
+use Rattle.port_objects.specs.Objects.{kept_of}
+use Rattle.port_objects.specs.Coming.{IsTheOne}
 use Rattle.port_objects.proofs.acting.act.Goals as goal
 
-pub returns-clause-done : goal.returns-clause-done
-returns-clause-done c = λ m l e ask is.
-    let p = plan_of c.args.p.now in
-    let a = c.args.who.now in
-    let w = wanted_of c.args.wish.now in
-    let old = c.args.object.now in
-    let new = c.act_by_kind.new.object in
-    c.answers_are_what_may_come.ensures.made p m a w old new l e c.requires.touching ask (subst (IsAnswer p (touched p a w) a w old new) is c.act_by_kind.ensures.lead)
+pub returns-in-Done-clause-done : goal.returns-in-Done-clause-done
+returns-in-Done-clause-done c = λ m l e ask is.
+    let same : c.act_in_place.new.out ≡ e = cc is in
+    subst (IsTheOne (plan_of c.args.p.now) c.args.who.now (wanted_of c.args.wish.now) (kept_of c.act_in_place.new.object) l) same (c.in-Done.ensures.done m l ask refl)
 
-pub returns-clause-not_yet : goal.returns-clause-not_yet
-returns-clause-not_yet c = λ m l shown ask is.
-    let p = plan_of c.args.p.now in
-    let a = c.args.who.now in
-    let w = wanted_of c.args.wish.now in
-    let old = c.args.object.now in
-    let new = c.act_by_kind.new.object in
-    c.answers_are_what_may_come.ensures.held p m a w old new l shown c.requires.touching ask (subst (IsAnswer p (touched p a w) a w old new) is c.act_by_kind.ensures.lead)
+pub returns-in-NotYet-clause-not_yet : goal.returns-in-NotYet-clause-not_yet
+returns-in-NotYet-clause-not_yet c = λ m l shown ask is. c.in-NotYet.ensures.not_yet m l c.in-NotYet.shown ask refl
