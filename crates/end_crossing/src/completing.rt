@@ -58,7 +58,9 @@ fn found_of(alloc: Global, tree: &Tree, gate: Gate, interface: u32) -> Result<Fo
         wanted: Wanted::Only(only(alloc, interface)?),
         limit: LINK_LIMIT,
     };
-    let found = ends_at(alloc, tree, gate, &wish)?;
+    let below = ends_at(alloc, tree, gate, &wish);
+    drop(wish);
+    let found = below?;
     Ok(found)
 }
 

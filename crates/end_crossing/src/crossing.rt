@@ -76,7 +76,9 @@ fn firsts_below(
         wanted: Wanted::Only(firsts_of(alloc, pairs)?),
         limit,
     };
-    let found = ends_at(alloc, tree, gate, &wish)?;
+    let below = ends_at(alloc, tree, gate, &wish);
+    drop(wish);
+    let found = below?;
     Ok(found)
 }
 
@@ -97,7 +99,9 @@ fn seconds_below(
         wanted: Wanted::Only(seconds_of(alloc, pairs)?),
         limit,
     };
-    let found = ends_at(alloc, tree, gate, &wish)?;
+    let below = ends_at(alloc, tree, gate, &wish);
+    drop(wish);
+    let found = below?;
     Ok(found)
 }
 
@@ -297,7 +301,9 @@ fn complete_firsts(
     ensures has { IfOk result (λ answer. answer ≡ true → (k : ℕ × ℕ) → Among k pairs.now → HasInterface side.new k.0) }
 {
     let firsts = firsts_of(alloc, pairs)?;
-    let has_firsts = complete_all(alloc, tree, gate, firsts.as_slice(), side)?;
+    let completed = complete_all(alloc, tree, gate, firsts.as_slice(), side);
+    drop(firsts);
+    let has_firsts = completed?;
     Ok(has_firsts)
 }
 
@@ -317,7 +323,9 @@ fn complete_seconds(
     ensures has { IfOk result (λ answer. answer ≡ true → (k : ℕ × ℕ) → Among k pairs.now → HasInterface side.new k.1) }
 {
     let seconds = seconds_of(alloc, pairs)?;
-    let has_seconds = complete_all(alloc, tree, gate, seconds.as_slice(), side)?;
+    let completed = complete_all(alloc, tree, gate, seconds.as_slice(), side);
+    drop(seconds);
+    let has_seconds = completed?;
     Ok(has_seconds)
 }
 
@@ -390,7 +398,7 @@ fn add_both(
     ensures grown { IfOk result (λ is_full. Grown (IsCrossLink tree.now.d.now (gate_ends tree.now.d.now provided) (gate_ends tree.now.d.now required)) links.old.list.items links.new.list.items is_full) }
 {
     let pairs = matched.pairs(alloc, tree.d, first, second)?;
-    let is_full = add_shared(
+    let added = add_shared(
         alloc,
         tree,
         provided,
@@ -400,7 +408,9 @@ fn add_both(
         pairs.as_slice(),
         matched,
         links,
-    )?;
+    );
+    drop(pairs);
+    let is_full = added?;
     Ok(is_full)
 }
 
@@ -424,7 +434,7 @@ fn add_first(
     ensures grown { IfOk result (λ is_full. Grown (IsCrossLink tree.now.d.now (gate_ends tree.now.d.now provided) (gate_ends tree.now.d.now required)) links.old.list.items links.new.list.items is_full) }
 {
     let mut second = matched.take_side(alloc, tree, required)?;
-    let is_full = add_both(
+    let added = add_both(
         alloc,
         tree,
         provided,
@@ -433,9 +443,17 @@ fn add_first(
         &mut second,
         matched,
         links,
-    )?;
-    matched.keep_side(tree.d, required, second)?;
-    Ok(is_full)
+    );
+    match added {
+        Ok(is_full) => {
+            matched.keep_side(tree.d, required, second)?;
+            Ok(is_full)
+        }
+        Err(memory) => {
+            drop(second);
+            Err(memory)
+        }
+    }
 }
 
 /// Adds the links of the ports below two gates, by what is below each.
@@ -455,7 +473,14 @@ pub fn add_sides(
     ensures grown { IfOk result (λ is_full. Grown (IsCrossLink tree.now.d.now (gate_ends tree.now.d.now provided) (gate_ends tree.now.d.now required)) links.old.list.items links.new.list.items is_full) }
 {
     let mut first = matched.take_side(alloc, tree, provided)?;
-    let is_full = add_first(alloc, tree, provided, required, &mut first, matched, links)?;
-    matched.keep_side(tree.d, provided, first)?;
-    Ok(is_full)
+    match add_first(alloc, tree, provided, required, &mut first, matched, links) {
+        Ok(is_full) => {
+            matched.keep_side(tree.d, provided, first)?;
+            Ok(is_full)
+        }
+        Err(memory) => {
+            drop(first);
+            Err(memory)
+        }
+    }
 }

@@ -201,8 +201,7 @@ impl<'a> Matched<'a> {
             }
             None => {
                 let interfaces = self.interfaces.as_slice();
-                let side = side_of(alloc, tree, gate, interfaces, &mut self.near)?;
-                Ok(side)
+                side_of(alloc, tree, gate, interfaces, &mut self.near)
             }
         }
     }

@@ -151,8 +151,7 @@ fn cross_split(
     ensures grown { IfOk result (λ is_full. Grown (IsCrossLink tree.now.d.now (gate_ends tree.now.d.now provided) (gate_ends tree.now.d.now required)) links.old.list.items links.new.list.items is_full) }
 {
     if splits == 0 || matched.has_crossed_much() {
-        let is_full = add_sides(alloc, tree, provided, required, matched, links)?;
-        return Ok(is_full);
+        return add_sides(alloc, tree, provided, required, matched, links);
     }
     let splits = splits - 1;
     match parts_of(tree, provided) {
@@ -183,10 +182,7 @@ fn cross_split(
                 )?;
                 Ok(is_full)
             }
-            None => {
-                let is_full = add_sides(alloc, tree, provided, required, matched, links)?;
-                Ok(is_full)
-            }
+            None => add_sides(alloc, tree, provided, required, matched, links),
         },
     }
 }
@@ -237,6 +233,5 @@ pub fn cross_gates(
     ensures matched { OnOk result (IsAdding tree.now.d.now matched.new links.new.list.items) }
     ensures grown { IfOk result (λ is_full. Grown (IsCrossLink tree.now.d.now (gate_ends tree.now.d.now provided) (gate_ends tree.now.d.now required)) links.old.list.items links.new.list.items is_full) }
 {
-    let is_full = cross_once(alloc, tree, SPLITS, provided, required, matched, links)?;
-    Ok(is_full)
+    cross_once(alloc, tree, SPLITS, provided, required, matched, links)
 }

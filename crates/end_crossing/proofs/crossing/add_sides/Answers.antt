@@ -5,6 +5,6 @@ pub add_first-requires-clause-matched : goal.add_first-requires-clause-matched
 add_first-requires-clause-matched c =
     adding_same c.args.tree.now.d.now c.args.matched.now c.args.links.now.list.items c.requires.matched c.take_side.new.self c.in_ok-first.ensures.matched c.in_ok-first.ensures.done c.in_ok-first.ensures.crossed
 
-pub returns-clause-matched : goal.returns-clause-matched
-returns-clause-matched c =
-    adding_same c.args.tree.now.d.now c.add_first.new.matched c.add_first.new.links.list.items c.in_ok-is_full.ensures.matched c.keep_side.new.self c.in_ok-keep_side.ensures.matched c.in_ok-keep_side.ensures.done c.in_ok-keep_side.ensures.crossed
+pub returns-in_ok-keep_side-in-Ok-clause-matched : goal.returns-in_ok-keep_side-in-Ok-clause-matched
+returns-in_ok-keep_side-in-Ok-clause-matched c =
+    adding_same c.args.tree.now.d.now c.add_first.new.matched c.add_first.new.links.list.items c.in-Ok.ensures.matched c.keep_side.new.self c.in_ok-keep_side-in-Ok.ensures.matched c.in_ok-keep_side-in-Ok.ensures.done c.in_ok-keep_side-in-Ok.ensures.crossed
