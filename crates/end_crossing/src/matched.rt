@@ -201,7 +201,8 @@ impl<'a> Matched<'a> {
             }
             None => {
                 let interfaces = self.interfaces.as_slice();
-                side_of(alloc, tree, gate, interfaces, &mut self.near)
+                let side = side_of(alloc, tree, gate, interfaces, &mut self.near)?;
+                Ok(side)
             }
         }
     }
