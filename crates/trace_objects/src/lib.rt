@@ -16,7 +16,7 @@ mod resting;
 mod unrest;
 
 pub use clauses::one_clause_speaks;
-pub use going::go_on;
+pub use going::{go_on, tick};
 pub use making::make;
 pub use resting::may_rest;
 pub use unrest::Unrest;

@@ -12,13 +12,14 @@ use crate::came::Came;
 use crate::clauses::broken_by;
 use crate::unrest::Unrest;
 use bus_laws::answers_look_at_one_object;
-use bus_semantics::{BusPlan, Entry, Wish, wish_of};
+use bus_semantics::{BusPlan, Deed, Entry, Wish, wish_of};
 use history_laws::{
     calls_come, hearers_have_asked, legal_histories_part_into_objects, running_activations_go_on,
     unjoined_points_return_nothing, what_comes_may_follow, what_touches_nothing, wishes_match,
 };
 use port_objects::{
-    Acted, Object, act, free_deed, free_deeds_are_legal, object_of, sound_plans_have_objects,
+    Filled, Object, act_in_place, free_deed, free_deeds_are_legal, object_of,
+    sound_plans_have_objects,
 };
 use same_entries::same_entry;
 
@@ -45,12 +46,16 @@ fn make_on(
     ensures made { (m : Mapping) (l : Past) → MayAsk (plan_of p.now) m entry.now.actor (wanted_of wish.now) (kept_of object.old) l →
         IsMadeOn (plan_of p.now) (wanted_of wish.now) (kept_of object.new) l entry.now result }
 {
-    match act(p, object, &entry.actor, wish) {
-        Acted::Done(made) => {
+    let mut made = Entry {
+        actor: entry.actor,
+        deed: Deed::Tick,
+    };
+    match act_in_place(p, object, &entry.actor, wish, &mut made) {
+        Filled::Done => {
             unrest.note(p, number, object, &made.deed);
             compare(&made, entry)
         }
-        Acted::NotYet(_) => Came::Nothing,
+        Filled::NotYet(_) => Came::Nothing,
     }
 }
 
