@@ -21,3 +21,4 @@ pub mod Clauses
 mod Accepted
 pub mod TextCuts
 mod Reached
+mod SameBytes

@@ -42,6 +42,7 @@
 
 mod actors;
 mod checked;
+mod comparing;
 mod cuts;
 mod deeds;
 mod entries;

@@ -5,6 +5,7 @@ ghost use Rattle.bus_semantics.specs.Common.{fits, plan_of, item_fits, made, ent
 ghost use Rattle.trace_reading.specs.Readable.{IsReadable};
 ghost use Rattle.trace_reading.specs.Reads.{BeginsWith, Reads, ReadsEntry};
 
+use crate::comparing::same_bytes;
 use crate::entries::fits;
 use crate::guess::guess;
 use crate::names::Names;
@@ -68,7 +69,7 @@ pub fn behind<'t>(text: &'t [u8], start: &[u8]) -> Option<&'t [u8]>
     if text.len() < long {
         return None;
     }
-    if &text[..long] == start {
+    if same_bytes(&text[..long], start) {
         Some(&text[long..])
     } else {
         None
