@@ -1,5 +1,5 @@
 -- What the close of a round finds.
-use Rattle.std.proofs.Common.{◌≡◌, ◌<◌, ◌≤◌, ◌+◌, ◌*◌, ℕ, zero, suc, List, [], ◌∷◌, ◌++◌, Bool, false, set, take, map, length, get_or, slice_get, refl, sym, ◌∙◌, ap, subst, arith, Some}
+use Rattle.std.proofs.Common.{◌≡◌, ◌<◌, ◌≤◌, ◌*◌, ℕ, zero, suc, List, [], ◌∷◌, ◌++◌, Bool, false, set, take, map, length, get_or, slice_get, refl, sym, ◌∙◌, ap, subst, arith, Some}
 use Rattle.bus_semantics.specs.Common.{length-map, IsInterleaved}
 use mathlib.Core.Option.{some, some-injective, some-ne-none}
 use lib.ListN.{get_elem?}

@@ -1,6 +1,6 @@
 -- How a round ends: its log in order of stamps, and all objects at home.
 use Rattle.std.proofs.Common.{◌≡◌, ◌<◌, ◌≤◌, ◌+◌, ◌-◌, ◌*◌, ◌==◌, ℕ, zero, suc, Bool, true, false, ◌&&◌, is_some, if◌then◌else◌, List, [], ◌∷◌, ◌++◌, map, length, length-append, refl, sym}
-use Rattle.std.proofs.Common.{◌∙◌, ap, subst, ⊎_elim, ◌⊎◌, arith, eq-eqb, lt-ltb, filter, slice_get, nat_lt, Option, Some, None, option_and_then}
+use Rattle.std.proofs.Common.{◌∙◌, ap, subst, ⊎_elim, arith, eq-eqb, lt-ltb, filter, slice_get, nat_lt, Option, Some, None, option_and_then}
 use Rattle.bus_semantics.specs.Common.{and_parts, map-append, length-map, Plan, every_from, positions, Noted, Past, touches, Logged, part_of, stamps_count, IsInterleaved, past_of}
 use mathlib.Core.Logic.{dite}
 use native.Mathlib.Decide.{ℕ_discrete}

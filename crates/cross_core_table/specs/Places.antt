@@ -1,19 +1,22 @@
 -- Seats at the table as code steps with them, and what each call of a seat does to what it knows.
-use Rattle.std.specs.Prelude.{◌≡◌, ◌≢◌, ℕ, suc, List, [], ◌∷◌, Option, Some, None, unwrap_or}
+use Rattle.std.specs.Prelude.{◌≡◌, ◌≢◌, ℕ, suc, List, [], ◌∷◌, ◌++◌, Option, Some, None, unwrap_or}
 use Rattle.atomic_table.specs.declared.shared.Seat.{Seat}
 use Rattle.bus_semantics.specs.declared.entries.Actor.{Actor}
 use Rattle.bus_semantics.specs.declared.entries.Entry.{Entry}
 use Rattle.bus_semantics.specs.declared.entries.Stamped.{Stamped}
-use Rattle.bus_semantics.specs.Common.{Plan, Wanted, wanted_by, Noted}
+use Rattle.bus_semantics.specs.Common.{Plan, Wanted, wanted_by, event_of, Noted}
+use Rattle.object_kinds.specs.declared.acted.Filled.{Filled}
 use Rattle.object_kinds.specs.declared.acted.Shown.{Shown}
+use Rattle.object_kinds.specs.Common.{acted}
 use Rattle.port_objects.specs.declared.object.Object.{Object}
 use Rattle.port_objects.specs.declared.bench.Benched.{Benched}
 use Rattle.port_objects.specs.declared.bench.Benched.TheVariants.{Done, NotYet, Contended}
-use Rattle.port_objects.specs.Common.{Kept, lead, kept_of, IsOfPlan, why_held, IsStampedFor}
+use Rattle.port_objects.specs.Common.{Kept, lead, kept_of, IsOfPlan, IsAnswer, why_held, IsStampedFor}
+use Rattle.cross_core_table.specs.declared.seats.CoreSeat.{CoreSeat}
 use Rattle.cross_core_table.specs.declared.views.Opening.{Opening}
 use Rattle.cross_core_table.specs.declared.views.View.{View}
 use Rattle.cross_core_table.specs.Logs.{plan_in, kept_after}
-use Rattle.cross_core_table.specs.Plays.{Sat, held_of, holding, failing, making}
+use Rattle.cross_core_table.specs.Plays.{Sat, as_stamped, held_of, holding, failing, making}
 
 abbrev pub Place : Type 0
 Place = Seat Object View
@@ -48,6 +51,15 @@ pub record IsHolding (k : Opening) (m : Sat) (o : ℕ) : Type 0 where
   pub held : m.0.held ≡ Some (held_of o entries)
   pub kept : kept_after k o entries ≡ Some (kept_of object)
   pub planned : IsOfPlan (plan_in k) o object
+
+-- what came of a wish on the object that a seat holds: its entry lies behind those that the seat made, and has no stamp yet
+pub record HasFilled (p : Plan) (o : ℕ) (a : Actor) (w : Wanted) (held : Object) (old new : CoreSeat) (r : Filled) : Type 0 where
+  pub entry : Entry
+  pub object : Object
+  pub made : new.made.items ≡ old.made.items ++ as_stamped 0 entry (event_of w) ∷ []
+  pub slots : new.place.me.1 ≡ (o, object) ∷ []
+  pub answer : IsAnswer p o a w held object (acted r entry)
+  pub planned : IsOfPlan p o object
 
 -- an entry was made on the object that a seat holds, and is not stamped yet: what it kept leads by it to what it keeps
 pub record IsToKeep (k : Opening) (m : Sat) (o : ℕ) (e : Entry) (event : Option ℕ) : Type 0 where

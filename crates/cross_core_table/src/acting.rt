@@ -1,18 +1,20 @@
 //! A wish on an object that cores share.
 
-ghost use Rattle.std.specs.Prelude.{◌≡◌, ◌<◌, ◌++◌, suc, [], ◌∷◌, length, true, vec_len, Some, None};
+ghost use Rattle.std.specs.Prelude.{◌≡◌, ◌<◌, ◌++◌, suc, List, [], ◌∷◌, length, true, vec_len, Some, None};
+ghost use Rattle.bus_semantics.specs.declared.entries.Stamped.{Stamped};
 ghost use Rattle.bus_semantics.specs.Common.{vec_capacity, plan_of, groups_fit, wanted_of, event_of, touched_by};
+ghost use Rattle.port_objects.specs.declared.object.Object.{Object};
+ghost use Rattle.port_objects.specs.Common.{IsOfPlan};
 ghost use Rattle.port_objects.specs.Benches.{IsAsked, stamped_alone, benched, IsWritten};
 ghost use Rattle.cross_core_table.specs.Logs.{plan_in};
 ghost use Rattle.cross_core_table.specs.Plays.{making, letting_go, as_stamped};
-ghost use Rattle.cross_core_table.specs.Places.{KnowsAfter, IsToKeep};
+ghost use Rattle.cross_core_table.specs.Places.{KnowsAfter, IsSamePlace, IsToKeep, HasFilled};
 ghost use Rattle.cross_core_table.specs.Seats.{IsSeatAt, view_of};
 
 use crate::seats::CoreSeat;
-use crate::steps::{Top, act_on, look, stamp_off, stamp_on, try_lock, unlock};
-use bus_semantics::{Actor, BusPlan, Entry, Stamped, Wish};
-use object_kinds::Acted;
-use port_objects::{Answered, last_entries_are_last};
+use crate::steps::{Top, look, stamp_off, stamp_on, try_lock, unlock};
+use bus_semantics::{Actor, BusPlan, Deed, Entry, Stamped, Wish};
+use port_objects::{Answered, Filled, act_in_place, last_entries_are_last};
 
 /// Makes the entry of a wish on the object of this number, if no other core holds it and one may come, and keeps it. It tries once.
 pub(crate) fn act_at(
@@ -38,40 +40,76 @@ pub(crate) fn act_at(
     if try_lock(top, &mut seat.place, seat.core, object) != 0 {
         return Answered::Contended;
     }
-    match act_on(top, &mut seat.place, p, object, who, wish) {
-        Acted::Done(ref entry) => {
-            keep_entry(top, seat, object, entry, event_of(wish));
+    let before = seat.made.len();
+    match act_on(top, p, seat, object, who, wish) {
+        Filled::Done => {
+            keep_entry(top, seat, object);
             Answered::Made
         }
-        Acted::NotYet(shown) => {
+        Filled::NotYet(shown) => {
+            seat.made.truncate(before);
             look(top, &mut seat.place, object);
             Answered::NotYet(shown)
         }
     }
 }
 
-/// Stamps the entry that was made on the object in hand, gives the object back, and keeps the entry. It answers the stamp.
-fn keep_entry(top: &Top, seat: &mut CoreSeat, object: u32, entry: &Entry, event: Option<u32>) -> u64
+/// Makes the entry of a wish on the object that the seat holds, if one may come, behind the entries that the seat made; it has no stamp
+/// yet. If none may come, what is written there is no entry.
+fn act_on(
+    top: &Top,
+    p: &BusPlan,
+    seat: &mut CoreSeat,
+    object: u32,
+    who: &Actor,
+    wish: &Wish,
+) -> Filled
+    requires table { seat.old.place.table_id ≡ top.now.table_id }
+    requires groups { groups_fit (plan_of p.now) ≡ true }
+    requires asked { IsAsked (plan_of p.now) object who.now (wanted_of wish.now) }
+    requires holds { (held : Object) × (seat.old.place.me.1 ≡ (object, held) ∷ []) × IsOfPlan (plan_of p.now) object held }
+    requires space { vec_len seat.old.made < vec_capacity seat.old.made }
+    ensures same { IsSamePlace seat.old.place seat.new.place }
+    ensures core { seat.new.core ≡ seat.old.core }
+    ensures view { view_of seat.new ≡ view_of seat.old }
+    ensures capacity { vec_capacity seat.new.made ≡ vec_capacity seat.old.made }
+    ensures filled { (held : Object) → seat.old.place.me.1 ≡ (object, held) ∷ [] → HasFilled (plan_of p.now) object who.now (wanted_of wish.now) held seat.old seat.new result }
+{
+    let at = seat.made.len();
+    seat.made.push_reserved(Stamped {
+        stamp: 0,
+        entry: Entry {
+            actor: Actor::Env,
+            deed: Deed::Tick,
+        },
+        event: event_of(wish),
+    });
+    let held = seat.place.slot_mut(top, object as usize);
+    let stamped = &mut seat.made[at];
+    act_in_place(p, held, who, wish, &mut stamped.entry)
+}
+
+/// Stamps the entry that was made on the object in hand and lies behind the others, and gives the object back. It answers the stamp.
+fn keep_entry(top: &Top, seat: &mut CoreSeat, object: u32) -> u64
     requires table { seat.old.place.table_id ≡ top.now.table_id }
     requires words { top.now.table_id.words ≡ suc top.now.table_id.slots }
     requires within { object < top.now.table_id.slots }
     requires opening { (view_of seat.old).opening ≡ Some top.now.key }
-    requires keeps { IsToKeep top.now.key seat.old.place.me object entry.now event }
+    requires keeps { (before : List Stamped) × (last : Stamped) × (seat.old.made.items ≡ before ++ last ∷ []) × IsToKeep top.now.key seat.old.place.me object last.entry last.event }
     requires room { length (view_of seat.old).made < top.now.key.room }
-    requires space { vec_len seat.old.made < vec_capacity seat.old.made }
     ensures table { seat.new.place.table_id ≡ seat.old.place.table_id }
     ensures core { seat.new.core ≡ seat.old.core }
-    ensures seat { seat.new.place.me ≡ (making (letting_go seat.old.place.me.0) (as_stamped result entry.now event), []) }
-    ensures made { seat.new.made.items ≡ seat.old.made.items ++ as_stamped result entry.now event ∷ [] }
+    ensures seat { (before : List Stamped) (last : Stamped) → seat.old.made.items ≡ before ++ last ∷ [] →
+        seat.new.place.me ≡ (making (letting_go seat.old.place.me.0) (as_stamped result last.entry last.event), []) }
+    ensures made { (before : List Stamped) (last : Stamped) → seat.old.made.items ≡ before ++ last ∷ [] →
+        seat.new.made.items ≡ before ++ as_stamped result last.entry last.event ∷ [] }
     ensures capacity { vec_capacity seat.new.made ≡ vec_capacity seat.old.made }
 {
-    let stamp = stamp_on(top, &mut seat.place, object, entry, event);
+    let at = seat.made.len() - 1;
+    let last = &mut seat.made[at];
+    let stamp = stamp_on(top, &mut seat.place, object, &last.entry, last.event);
     unlock(top, &mut seat.place, object);
-    seat.made.push_reserved(Stamped {
-        stamp,
-        entry: *entry,
-        event,
-    });
+    last.stamp = stamp;
     stamp
 }
 

@@ -1,20 +1,17 @@
-//! The atomic steps of a seat, and its work on the object that it holds.
+//! The atomic steps of a seat.
 
-ghost use Rattle.std.specs.Prelude.{◌≡◌, ◌<◌, suc, [], ◌∷◌, length, true, Some, None};
-ghost use Rattle.bus_semantics.specs.Common.{plan_of, groups_fit, wanted_of, wish_fits, object_of, touched_by, asks_its_own};
-ghost use Rattle.port_objects.specs.declared.object.Object.{Object};
-ghost use Rattle.port_objects.specs.Common.{kept_of, IsOfPlan, IsAnswer};
+ghost use Rattle.std.specs.Prelude.{◌≡◌, ◌<◌, suc, [], length, Some, None};
+ghost use Rattle.bus_semantics.specs.Common.{touched_by};
 ghost use Rattle.cross_core_table.specs.declared.views.Held.{Held};
-ghost use Rattle.cross_core_table.specs.Logs.{plan_in, kept_after};
-ghost use Rattle.cross_core_table.specs.Plays.{as_stamped, held_of, held_after, making, letting_go, having_looked};
+ghost use Rattle.cross_core_table.specs.Logs.{plan_in};
+ghost use Rattle.cross_core_table.specs.Plays.{as_stamped, held_after, making, letting_go, having_looked};
 ghost use Rattle.cross_core_table.specs.Places.{IsSamePlace, IsIdle, IsHolding, HasTried};
 
 use crate::plays::{Lock, Look, Names, Ruled, StampOff, StampOn, Unlock};
 use crate::views::{Opening, View};
 use atomic_table::{Seat, Shared};
-use bus_semantics::{Actor, BusPlan, Entry, Wish};
-use object_kinds::Acted;
-use port_objects::{Object, act};
+use bus_semantics::Entry;
+use port_objects::Object;
 use std::marker::Brand;
 
 /// The table as its seats see it.
@@ -33,30 +30,6 @@ pub(crate) fn try_lock(top: &Top, place: &mut Place, core: u32, object: u32) -> 
     ensures tried { HasTried top.now.key core object result place.old.me place.new.me }
 {
     top.compare_exchange::<Lock>(place, object as usize + 1, 0, core as u64 + 1)
-}
-
-/// Makes the entry of a wish on the object that the seat holds, if one may come.
-pub(crate) fn act_on(
-    top: &Top,
-    place: &mut Place,
-    p: &BusPlan,
-    object: u32,
-    who: &Actor,
-    wish: &Wish,
-) -> Acted
-    requires table { place.old.table_id ≡ top.now.table_id }
-    requires groups { groups_fit (plan_of p.now) ≡ true }
-    requires touching { object_of (plan_of p.now) who.now (wanted_of wish.now) ≡ Some object }
-    requires fits { wish_fits (plan_of p.now) who.now (wanted_of wish.now) ≡ true }
-    requires own { asks_its_own (plan_of p.now) who.now (wanted_of wish.now) ≡ true }
-    requires holds { (held : Object) × (place.old.me.1 ≡ (object, held) ∷ []) × IsOfPlan (plan_of p.now) object held }
-    ensures same { IsSamePlace place.old place.new }
-    ensures view { place.new.me.0 ≡ place.old.me.0 }
-    ensures acted { (held : Object) → place.old.me.1 ≡ (object, held) ∷ [] → (now : Object) × (place.new.me.1 ≡ (object, now) ∷ [])
-        × IsAnswer (plan_of p.now) object who.now (wanted_of wish.now) held now result × IsOfPlan (plan_of p.now) object now }
-{
-    let held = place.slot_mut(top, object as usize);
-    act(p, held, who, wish)
 }
 
 /// Stamps an entry of the object that the seat holds, and answers its stamp.
