@@ -1,5 +1,5 @@
 -- What actors ask for along a trace.
-use Rattle.std.proofs.Common.{◌≡◌, ℕ, true, false, not, ◌&&◌, None, Some, refl, sym, ap, ◌∙◌, subst}
+use Rattle.std.proofs.Common.{◌≡◌, ℕ, true, not, ◌&&◌, None, Some, refl, sym, ap, ◌∙◌, subst}
 use Rattle.std.specs.Prelude.{unwrap_or}
 use Rattle.bus_semantics.specs.Common.{and_parts, and_from, false≢true, ActKey, same_number, Plan, runnable_of_event, Wanted, to_admit, to_end, to_move_on, to_start, wanted_by, History}
 use Rattle.bus_semantics.specs.Common.{runs, wish_fits, caller_has_asked, follows_program, is_held_back, may_start, event_of}

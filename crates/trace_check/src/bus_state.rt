@@ -1,7 +1,8 @@
 //! A bus along a trace.
 
 ghost use Rattle.std.specs.Prelude.{IfOk, IfSome, [], ◌≡◌, true, Some};
-ghost use Rattle.bus_semantics.specs.Common.{follows_program, key_fits, Plan, plan_of, Wanted, wanted_of, fits, History, IsLegal};
+ghost use Rattle.bus_semantics.specs.Common.{follows_program, key_fits, Plan, plan_of, Wanted, to_tick, wanted_of, fits, History, IsLegal};
+ghost use Rattle.bus_semantics.specs.declared.entries.Actor.TheVariants.{Env};
 ghost use Rattle.task_machine.specs.declared.instr.TaskSet.{TaskSet};
 ghost use Rattle.task_machine.specs.Frames.{wanted_in};
 ghost use Rattle.task_generator.specs.Promise.{AsksAsPlanned};
@@ -11,14 +12,14 @@ ghost use Rattle.trace_check.specs.Along.{AreSound, Idles, IsAlong, IsAsked, Mak
 ghost use Rattle.trace_check.specs.Going.{GoesOnBy, IsAskedAlong, IsMadeOf, NotesLine};
 
 use crate::rules::Rules;
-use bus_semantics::{Actor, BusPlan, Entry, Wish};
+use bus_semantics::{Actor, BusPlan, Deed, Entry, Wish};
 use port_objects::{Object, make_objects, sound_plans_have_objects};
 use rte_text::{LineBuf, Memory};
 use rte_value::ActKey;
 use std::alloc::Global;
 use task_machine::{Next, TaskSet};
-use trace_objects::{Unrest, go_on, make, may_rest};
-use trace_reading::{behind_line_of, sound_plans_are_readable};
+use trace_objects::{Unrest, go_on, make, may_rest, tick};
+use trace_reading::{behind, behind_line_of, sound_plans_are_readable};
 use trace_walks::{Runners, Walks};
 
 /// What is kept of a bus along a trace: its objects, what may come on them of its own, its activations, and which of them run.
@@ -135,10 +136,50 @@ impl BusState {
         ensures { IfOk result (λ behind. IfSome behind (λ more. (h : History) → IsLegal (plan_in rules.now) h → StateStands rules.now.tasks.now (plan_in rules.now) h self.old →
             Asks (plan_in rules.now) h actor (wanted_of wish.now) → GoesOnBy rules.now h actor (wanted_of wish.now) text.now more.now self.new)) }
     {
-        match go_on(rules.plan, &mut self.objects, &mut self.unrest, actor, wish) {
-            Some(entry) => self.note_line(alloc, rules, &entry, text),
-            None => Ok(None),
+        let mut entry = Entry {
+            actor,
+            deed: Deed::Tick,
+        };
+        if go_on(
+            rules.plan,
+            &mut self.objects,
+            &mut self.unrest,
+            actor,
+            wish,
+            &mut entry,
+        ) {
+            self.note_line(alloc, rules, &entry, text)
+        } else {
+            Ok(None)
         }
+    }
+
+    /// Makes a tick, for which the environment asks, if the text begins with its line, and answers what stands behind that line: what `go_on`
+    /// does, without the entry and its text. If the text begins otherwise, the state is of no use then. An error says that there was no memory.
+    pub(crate) fn tick<'t>(
+        &mut self,
+        alloc: Global,
+        rules: &Rules<'_, '_>,
+        text: &'t [u8],
+    ) -> Result<Option<&'t [u8]>, Memory>
+        requires sound { AreSound rules.now }
+        requires asked { IsAskedAlong rules.now self.old Env to_tick }
+        ensures { IfOk result (λ behind. IfSome behind (λ more. (h : History) → IsLegal (plan_in rules.now) h → StateStands rules.now.tasks.now (plan_in rules.now) h self.old →
+            Asks (plan_in rules.now) h Env to_tick → GoesOnBy rules.now h Env to_tick text.now more.now self.new)) }
+    {
+        let Some(more) = behind(text, b"env tick\n") else {
+            return Ok(None);
+        };
+        if !tick(rules.plan, &mut self.objects, &mut self.unrest) {
+            return Ok(None);
+        }
+        let ticked = Entry {
+            actor: Actor::Env,
+            deed: Deed::Tick,
+        };
+        self.walks.note(alloc, rules.tasks, rules.plan, &ticked)?;
+        self.runners.note(&ticked);
+        Ok(Some(more))
     }
 
     /// Notes an entry that its object has made, if the text begins with its line, and answers what stands behind that.

@@ -200,6 +200,30 @@ impl<'p> Check<'p> {
         }
     }
 
+    /// Makes a tick, if no run line is open, the script asks for a tick next, and the text begins with its line. An error says that there was
+    /// no memory.
+    pub(crate) fn tick<'t>(
+        &mut self,
+        alloc: Global,
+        rules: &Rules<'_, 'p>,
+        text: &'t [u8],
+    ) -> Result<Gone<'t>, Memory>
+        requires sound { AreSound rules.now }
+        requires can { CanJudge rules.now self.old }
+        ensures { IfOk result (λ gone. (s : Session) → Stands rules.now s self.old → Goes rules.now s text.now self.new gone) }
+    {
+        if self.inside {
+            return Ok(Gone::Nowhere);
+        }
+        if !self.orders.take_call(&Wish::Tick) {
+            return Ok(Gone::Nowhere);
+        }
+        match self.state.tick(alloc, rules, text)? {
+            Some(more) => Ok(Gone::To(more)),
+            None => Ok(Gone::Astray),
+        }
+    }
+
     /// Makes the script's next call, if no run line is open, and the text begins with the line of its entry.
     fn call<'t>(
         &mut self,

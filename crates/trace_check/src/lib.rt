@@ -11,8 +11,9 @@
 //!
 //! **How are lines read?** To find what a line names takes longer than to write a line. So first each line is compared with the text of what
 //! its actor asks for next, made on its object: what the program of its activation wants, the next call of the script, the next phase
-//! of a machine, or a start by the event that is guessed. If all lines are so, the trace is legal. If one is not, the whole trace is checked
-//! anew, and each line is read before anything is made. So a trace with a fault takes twice the time at most.
+//! of a machine, or a start by the event that is guessed. A tick for which the script asks is made without an entry, since all ticks have
+//! one line. If all lines are so, the trace is legal. If one is not, the whole trace is checked anew, and each line is read before
+//! anything is made. So a trace with a fault takes twice the time at most.
 #![tactic(auto)]
 
 mod bus_state;

@@ -61,8 +61,8 @@ fn read_line<'t, 'p>(
     }
 }
 
-/// Takes the first line, and answers what stands behind it, if it may come next.
-fn take_line<'t, 'p>(
+/// Takes the first line, if it is no tick of the script, and answers what stands behind it, if it may come next.
+fn take_other<'t, 'p>(
     alloc: Global,
     rules: &Rules<'_, 'p>,
     reader: &Reader<'_>,
@@ -78,6 +78,28 @@ fn take_line<'t, 'p>(
     match go_on(alloc, rules, check, seen, left)? {
         Gone::To(more) => Ok(Some(more)),
         Gone::Nowhere => read_line(alloc, rules, reader, check, seen, left),
+        Gone::Astray => Ok(None),
+    }
+}
+
+/// Takes the first line, and answers what stands behind it, if it may come next. A tick is tried first: it is made without its entry, and
+/// its line is always the same.
+fn take_line<'t, 'p>(
+    alloc: Global,
+    rules: &Rules<'_, 'p>,
+    reader: &Reader<'_>,
+    check: &mut Check<'p>,
+    seen: &mut Actors<'t>,
+    left: &'t [u8],
+) -> Result<Option<&'t [u8]>, Memory>
+    requires sound { AreSound rules.now }
+    requires of_plan { reader.now.plan.now ≡ rules.now.plan.now }
+    requires can { CanJudge rules.now check.old }
+    ensures { IfOk result (λ behind. (s : Session) → Stands rules.now s check.old → IfSome behind (λ more. TakesLine rules.now s left.now more.now check.new)) }
+{
+    match check.tick(alloc, rules, left)? {
+        Gone::To(more) => Ok(Some(more)),
+        Gone::Nowhere => take_other(alloc, rules, reader, check, seen, left),
         Gone::Astray => Ok(None),
     }
 }

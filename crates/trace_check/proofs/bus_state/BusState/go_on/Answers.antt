@@ -1,4 +1,3 @@
-use Rattle.std.proofs.Common.{refl}
 use Rattle.std.proofs.lemmas.Option.{IfSome_then}
 use Rattle.std.proofs.lemmas.Result.{IfOk-weaker}
 use Rattle.trace_check.specs.Along.{plan_in}
@@ -24,9 +23,9 @@ go_on-requires-clause-next c =
 pub note_line-requires-clause-made : goal.note_line-requires-clause-made
 note_line-requires-clause-made c =
     let r = c.args.rules.now in
-    let e = c.in-Some.entry in
+    let e = c.go_on.new.out in
     let a = c.requires.asked in
-    let makes = c.in-Some.ensures.made r.mapping.now a.history e (record { sound = c.requires.sound.sound; legal = a.legal; asks = a.asks }) a.stands.objects refl in (
+    let makes = c.go_on.ensures.made r.mapping.now a.history (record { sound = c.requires.sound.sound; legal = a.legal; asks = a.asks }) a.stands.objects c.if-go_on.true in (
       a.history,
       record {
         fit = makes.fit;
@@ -39,13 +38,13 @@ note_line-requires-clause-made c =
       },
     )
 
-pub returns-in-Some : goal.returns-in-Some
-returns-in-Some c =
+pub returns-then-go_on : goal.returns-then-go_on
+returns-then-go_on c =
     let r = c.args.rules.now in
-    let e = c.in-Some.entry in
+    let e = c.go_on.new.out in
     IfOk-weaker c.note_line.result _ _
     (λ behind notes. IfSome_then behind notes (λ more n. λ h legal stands asks.
-    let makes = c.in-Some.ensures.made r.mapping.now h e (record { sound = c.requires.sound.sound; legal = legal; asks = asks }) stands.objects refl in
+    let makes = c.go_on.ensures.made r.mapping.now h (record { sound = c.requires.sound.sound; legal = legal; asks = asks }) stands.objects c.if-go_on.true in
     let later = legal_then (plan_in r) h e legal makes.fit makes.unbroken in
     record {
       entry = e;
