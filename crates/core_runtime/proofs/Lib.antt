@@ -17,5 +17,6 @@ pub mod Later
 pub mod InOrder
 pub mod Rounded
 pub mod Known
+pub mod Ticking
 pub mod Together
 pub mod Parting

@@ -1,4 +1,5 @@
 -- The names that proofs and the crates above cite, passed on from one place. Declares nothing.
+pub use Rattle.port_objects.specs.Common.{tick_of_env}
 pub use Rattle.core_runtime.specs.After.{after}
 pub use Rattle.core_runtime.specs.Nodes.{AreNewCores, IsLawfulNode, IsNode, NodeState}
 pub use Rattle.core_runtime.specs.Rounds.{IsLater, IsRound, IsTurn, Rested, RoundState, Stepped}

@@ -33,6 +33,9 @@
 //! Other entries wake nothing; the environment enters no area, so its calls wake only events. A turn finds what is awake by words
 //! of 64 places, and these by a word for each 4,096.
 //!
+//! **Why are ticks made apart?** A tick is the one call whose entry is always the same, and scripts have many. `Node::tick` makes it without
+//! an entry, and wakes the events that the clock tells. No contract of it says less than that of `environment`.
+//!
 //! **What of a node keeps the entries?** The node's list does: the turn of a single core writes its entry at the end of it. In a
 //! lane a core needs room for one entry. In a round of several cores each seat has a list of what its core made, and the close one
 //! of all, in order of stamps, which the node copies: so its own room is what it was, whatever the close gave.

@@ -1,9 +1,9 @@
 //! What an entry wakes.
 
 ghost use Rattle.std.specs.Prelude.{◌≡◌, ℕ, List, true, false, None, Some, IfSome, slice_get};
-ghost use Rattle.bus_semantics.specs.Common.{Contains, Noted, touched_by, IsObject, Plan, plan_of};
+ghost use Rattle.bus_semantics.specs.Common.{Contains, Noted, touched_by, IsObject, Plan, clock, plan_of};
 ghost use Rattle.port_objects.specs.declared.object.Object.{Object};
-ghost use Rattle.port_objects.specs.Objects.{kept_of};
+ghost use Rattle.port_objects.specs.Common.{kept_of, tick_of_env};
 ghost use Rattle.task_machine.specs.declared.instr.TaskSet.{TaskSet};
 ghost use Rattle.core_turn.specs.Cores.{CoreState};
 ghost use Rattle.core_runtime.specs.Watching.{AreAnswered, AreRoused, AreSeated, AreWatched, AreWoken, IsAfter, IsAt, IsSeen, IsThere, IsWatch, tables_of};
@@ -14,7 +14,7 @@ use crate::seats::Seat;
 use crate::waiting::wake_waiting;
 use crate::watch::Watch;
 use bus_semantics::{BusPlan, Deed, Entry};
-use core_turn::Awake;
+use core_turn::{Awake, waiters_sleep_on};
 use port_objects::{
     Object, answers_go_by_flags, held_starts_lead_nowhere, may_start, other_entries_wake_nothing,
     touched_object, wakes, woken,
@@ -112,4 +112,16 @@ pub(crate) fn wake_after(
     wake_caller(p, touched, objects, w);
     wake_starts(&entry.deed, touched, objects, w);
     wake_waiting(&entry.deed, touched, &mut w.awake);
+}
+
+/// Wakes what a tick of the clock, which is the object of this number and after which the objects are these, made due (SWS_RTE:
+/// TimingEvent). It wakes no machine, no caller and nobody who waits at an area, since a tick touches none of their objects.
+pub(crate) fn wake_ticked(number: u32, objects: &[Object], w: &mut Watch)
+    requires there { (e : ℕ) (s : Seat) → IsAt w.old.seats.items e s → IsThere w.old.awake.items s }
+    ensures { (p : Plan) (t : TaskSet) (cores : List CoreState) (before : List Object) → number ≡ clock p
+        → IsAfter p before objects.now (record { entry = tick_of_env; event = None })
+        → IsWatch p t before (Some (clock p)) cores w.old → IsWatch p t objects.now None cores w.new }
+{
+    waiters_sleep_on();
+    wake_starts(&Deed::Tick, Some(number), objects, w);
 }

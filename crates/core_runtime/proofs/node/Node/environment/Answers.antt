@@ -18,13 +18,13 @@ index_mut-requires c =
     let within = is_there (wanted_of c.args.wish.now) c.self.invariant.0 fit c.in-Some.ensures c.sound_plans_have_objects.ensures.touched in
     omega (arith, within)
 
-pub act-requires-clause-planned : goal.act-requires-clause-planned
-act-requires-clause-planned c =
+pub act_in_place-requires-clause-planned : goal.act_in_place-requires-clause-planned
+act_in_place-requires-clause-planned c =
     let fit = subst (λ (n : NodeState). wish_fits (plan_of n.plan) Env (wanted_of c.args.wish.now) ≡ true) (sym c.self.view_is) c.requires.fits in
     is_planned (wanted_of c.args.wish.now) c.self.invariant.0 fit c.in-Some.ensures c.sound_plans_have_objects.ensures.touched c.index_mut.result.now c.index_mut.ensures.value
 
-pub act-requires-clause-fits : goal.act-requires-clause-fits
-act-requires-clause-fits c = subst (λ (n : NodeState). wish_fits (plan_of n.plan) Env (wanted_of c.args.wish.now) ≡ true) (sym c.self.view_is) c.requires.fits
+pub act_in_place-requires-clause-fits : goal.act_in_place-requires-clause-fits
+act_in_place-requires-clause-fits c = subst (λ (n : NodeState). wish_fits (plan_of n.plan) Env (wanted_of c.args.wish.now) ≡ true) (sym c.self.view_is) c.requires.fits
 
 pub unreachable-requires : goal.unreachable-requires
 unreachable-requires c =
@@ -52,7 +52,7 @@ wake_after-requires-clause-watched c = (c.self.inside.bodies, c.self.inside.live
 pub wake_after-requires-clause-within : goal.wake_after-requires-clause-within
 wake_after-requires-clause-within c =
     let fit = subst (λ (n : NodeState). wish_fits (plan_of n.plan) Env (wanted_of c.args.wish.now) ≡ true) (sym c.self.view_is) c.requires.fits in
-    within_then (wanted_of c.args.wish.now) c.self.invariant.0 fit c.in-Some.ensures c.sound_plans_have_objects.ensures.touched c.index_mut.result.now c.index_mut.ensures.value c.act.new.object c.in-Done.entry c.in-Done.ensures.lead
+    within_then (wanted_of c.args.wish.now) c.self.invariant.0 fit c.in-Some.ensures c.sound_plans_have_objects.ensures.touched c.index_mut.result.now c.index_mut.ensures.value c.act_in_place.new.object c.act_in_place.new.out c.in-Done.ensures.lead
 
 pub invariant_of-self : goal.invariant_of-self
 invariant_of-self c =
@@ -62,7 +62,7 @@ invariant_of-self c =
     let cores = c.self.inside.live.cores.items in
     let objects = c.self.inside.live.objects.items in
     let watch = c.self.inside.live.watch in
-    let touched = touched_by p (record { entry = c.in-Done.entry; event = None }) in
+    let touched = touched_by p (record { entry = c.act_in_place.new.out; event = None }) in
     let watched : IsWatch p t objects touched cores watch = record {
       awake = c.self.invariant.1.awake;
       waiting = still_waiting c.waiters_sleep_on.ensures.still p t objects touched cores watch.awake.items c.self.invariant.1.waiting;
@@ -70,12 +70,12 @@ invariant_of-self c =
       behind = c.self.invariant.1.behind;
       starters = c.self.invariant.1.starters;
     } in
-    let changed = touches_then (wanted_of c.args.wish.now) c.self.invariant.0 fit c.in-Some.ensures c.sound_plans_have_objects.ensures.touched c.index_mut.result.now c.index_mut.ensures.value c.act.new.object c.in-Done.entry c.in-Done.ensures.lead in
-    let is_after = subst (λ os. IsAfter p objects os (record { entry = c.in-Done.entry; event = None })) (sym c.as_slice.ensures.value) (inr changed) in (
+    let changed = touches_then (wanted_of c.args.wish.now) c.self.invariant.0 fit c.in-Some.ensures c.sound_plans_have_objects.ensures.touched c.index_mut.result.now c.index_mut.ensures.value c.act_in_place.new.object c.act_in_place.new.out c.in-Done.ensures.lead in
+    let is_after = subst (λ os. IsAfter p objects os (record { entry = c.act_in_place.new.out; event = None })) (sym c.as_slice.ensures.value) (inr changed) in (
       node_then (wanted_of c.args.wish.now) c.self.invariant.0 fit c.in-Some.ensures
           c.sound_plans_have_objects.ensures.touched c.index_mut.result.now c.index_mut.ensures.value
-          c.what_comes_may_follow.ensures.entry c.cores_stand_beside_the_environment.ensures c.act.new.object c.in-Done.entry
-          (λ h ask. c.in-Done.ensures.done c.self.inside.mapping (entries_of (plan_of c.self.inside.plan) h c.in-Some.object) c.in-Done.entry ask refl) c.in-Done.ensures.planned,
+          c.what_comes_may_follow.ensures.entry c.cores_stand_beside_the_environment.ensures c.act_in_place.new.object c.act_in_place.new.out
+          (λ h ask. c.in-Done.ensures.done c.self.inside.mapping (entries_of (plan_of c.self.inside.plan) h c.in-Some.object) ask refl) c.in-Done.ensures.planned,
       subst (λ os. IsWatch p t os None cores c.wake_after.new.w) c.as_slice.ensures.value (c.wake_after.ensures t cores objects is_after watched),
     )
 
@@ -84,8 +84,8 @@ returns-in-Done-clause-lawful c = λ h lawful.
     let fit = subst (λ (n : NodeState). wish_fits (plan_of n.plan) Env (wanted_of c.args.wish.now) ≡ true) (sym c.self.view_is) c.requires.fits in
     lawful_on (wanted_of c.args.wish.now) c.self.invariant.0 fit c.in-Some.ensures
     c.sound_plans_have_objects.ensures.touched c.index_mut.result.now c.index_mut.ensures.value
-    c.what_comes_may_follow.ensures.entry c.cores_stand_beside_the_environment.ensures c.act.new.object c.in-Done.entry
-    (λ h ask. c.in-Done.ensures.done c.self.inside.mapping (entries_of (plan_of c.self.inside.plan) h c.in-Some.object) c.in-Done.entry ask refl) h
+    c.what_comes_may_follow.ensures.entry c.cores_stand_beside_the_environment.ensures c.act_in_place.new.object c.act_in_place.new.out
+    (λ h ask. c.in-Done.ensures.done c.self.inside.mapping (entries_of (plan_of c.self.inside.plan) h c.in-Some.object) ask refl) h
     (subst (λ (n : NodeState). IsLawfulNode n h) (sym c.self.view_is) lawful)
 
 pub returns-in-Some-free_deed-clause-lawful : goal.returns-in-Some-free_deed-clause-lawful
