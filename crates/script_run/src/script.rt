@@ -6,14 +6,14 @@ ghost use Rattle.bus_semantics.specs.declared.entries.Actor.TheVariants.{Env};
 ghost use Rattle.bus_semantics.specs.declared.script.Line.TheVariants as line;
 ghost use Rattle.bus_semantics.specs.Common.{wish_fits, History, plan_of, a_call, orders_of_line, orders_of_script, to_tick, wanted_of};
 ghost use Rattle.script_reading.specs.Carried.{IsCarriable};
-ghost use Rattle.core_runtime.specs.Nodes.{IsLawfulNode};
+ghost use Rattle.core_runtime.specs.Common.{IsLawfulNode, tick_of_env};
 ghost use Rattle.script_run.specs.declared.script.ScriptRun.TheVariants.{Finished};
 ghost use Rattle.script_run.specs.Running.{FaultsAfter, PrintsBeginning, PrintsFirstLines, PrintsLines, PrintsRun};
 ghost use Rattle.script_run.specs.Standing.{Calls, Carries, outside};
 
 use crate::laps::put_run;
-use crate::lines::{came_of, put_entry};
-use crate::writing::Writing;
+use crate::lines::{came_of, put_entry, tick_line};
+use crate::writing::{Writing, put_behind};
 use bus_semantics::{Entry, Line, Script, Version, Wish};
 use core_runtime::Node;
 use no_stall::no_history_stalls;
@@ -71,6 +71,17 @@ fn put_call<K: Sink>(
     came_of(made.1)
 }
 
+/// Makes a tick and puts its line: what the put answered. The tick goes on legally with the session, whatever came of its line.
+fn put_tick<K: Sink>(n: &mut Node, w: Writing, out: &mut K) -> Put
+    ensures plan { n.new.plan ≡ n.old.plan }
+    ensures mapping { n.new.mapping ≡ n.old.mapping }
+    ensures calls { Calls w result to_tick tick_of_env n.old n.new (K.told out.old) (K.told out.new) }
+    ensures faults { SinkFaultsAfter result (K.faults out.old) (K.faults out.new) }
+{
+    n.tick();
+    put_behind(out, w.prefix, tick_line())
+}
+
 /// Makes so many ticks and puts their lines. They go on whatever session the node stands after, outside run lines: they add items to it that go on legally,
 /// and put a line for each, in order, behind the prefix that was asked for. With `Failed` and `Memory`, what was put is a prefix
 /// of the lines of such items that do some of the orders.
@@ -87,10 +98,9 @@ pub fn put_ticks<K: Sink>(
     ensures faults { FaultsAfter result (K.faults out.old) (K.faults out.new) }
 {
     for i in 0..count {
-        match put_call(n, &Wish::Tick, w, out, line) {
-            ScriptRun::Finished => {}
-            ScriptRun::Failed => return ScriptRun::Failed,
-            ScriptRun::Memory => return ScriptRun::Memory,
+        match put_tick(n, w, out) {
+            Put::Done => {}
+            Put::Failed => return ScriptRun::Failed,
         }
     }
     ScriptRun::Finished
