@@ -204,7 +204,7 @@ fn put_line<R: Threads + Sync, K: Sink, G: Gate, L: Link>(
     ensures link { LinkFaultsAfter result (L.faults way.old) (L.faults way.new) }
 {
     match script_line {
-        Line::Tick(count) => tick_both(one, two, *count, out, line),
+        Line::Tick(count) => tick_both(one, two, *count, out),
         Line::Run => run_both(rt, alloc, one, two, way, unframer, out, line, gate),
         Line::Call(wish) => call_one(one, wish, out, line),
     }
@@ -227,13 +227,7 @@ fn call_one<K: Sink>(one: &mut Node, wish: &Wish, out: &mut K, line: &mut LineBu
 }
 
 /// So many ticks on each node.
-fn tick_both<K: Sink>(
-    one: &mut Node,
-    two: &mut Node,
-    count: u32,
-    out: &mut K,
-    line: &mut LineBuf,
-) -> PairRun
+fn tick_both<K: Sink>(one: &mut Node, two: &mut Node, count: u32, out: &mut K) -> PairRun
     ensures plan_one { one.new.plan ≡ one.old.plan }
     ensures plan_two { two.new.plan ≡ two.old.plan }
     ensures carries { CarryBoth (Makes [] (script_line.Tick count)) result one.old one.new two.old two.new (K.told out.old) (K.told out.new) }
@@ -242,8 +236,8 @@ fn tick_both<K: Sink>(
 {
     let first = lines_of_one();
     let second = lines_of_two();
-    match came_of(put_ticks(one, count, first, out, line)) {
-        PairRun::Finished => came_of(put_ticks(two, count, second, out, line)),
+    match came_of(put_ticks(one, count, first, out)) {
+        PairRun::Finished => came_of(put_ticks(two, count, second, out)),
         stopped => stopped,
     }
 }

@@ -85,13 +85,7 @@ fn put_tick<K: Sink>(n: &mut Node, w: Writing, out: &mut K) -> Put
 /// Makes so many ticks and puts their lines. They go on whatever session the node stands after, outside run lines: they add items to it that go on legally,
 /// and put a line for each, in order, behind the prefix that was asked for. With `Failed` and `Memory`, what was put is a prefix
 /// of the lines of such items that do some of the orders.
-pub fn put_ticks<K: Sink>(
-    n: &mut Node,
-    count: u32,
-    w: Writing,
-    out: &mut K,
-    line: &mut LineBuf,
-) -> ScriptRun
+pub fn put_ticks<K: Sink>(n: &mut Node, count: u32, w: Writing, out: &mut K) -> ScriptRun
     ensures plan { n.new.plan ≡ n.old.plan }
     ensures mapping { n.new.mapping ≡ n.old.mapping }
     ensures carries { Carries w result (replicate count (a_call to_tick)) outside outside n.old n.new (K.told out.old) (K.told out.new) }
@@ -124,7 +118,7 @@ fn put_line<R: Threads + Sync, K: Sink, G: Gate>(
     ensures faults { FaultsAfter result (K.faults out.old) (K.faults out.new) }
 {
     match script_line {
-        Line::Tick(count) => put_ticks(n, *count, w, out, line),
+        Line::Tick(count) => put_ticks(n, *count, w, out),
         Line::Run => put_run(rt, alloc, n, w, out, line, gate),
         Line::Call(wish) => put_call(n, wish, w, out, line),
     }
