@@ -142,6 +142,16 @@ fn set_machines(guesses: &mut Guesses, p: &BusPlan, slots: usize) {
     }
 }
 
+/// Adds the places of all that may start, of those who call, and of the mode machines.
+fn add_all(guesses: &mut Guesses, p: &BusPlan, cores: &[Core], w: &Watch) -> Result<(), Memory> {
+    add_starts(guesses, p, w)?;
+    add_callers(guesses, p, w)?;
+    if let Some(first) = cores.first() {
+        set_machines(guesses, p, first.slots());
+    }
+    Ok(())
+}
+
 /// For each object the places of the events that an entry at the object may start, of the callers that may hear of it, and of the mode
 /// machine that it is; none for a single core, whose turns are watched. The only error is that there is no memory.
 pub(crate) fn guesses_of(
@@ -154,10 +164,11 @@ pub(crate) fn guesses_of(
         return Guesses::none(alloc, 0, 0);
     }
     let mut guesses = Guesses::none(alloc, cores.len(), p.objects as usize)?;
-    add_starts(&mut guesses, p, w)?;
-    add_callers(&mut guesses, p, w)?;
-    if let Some(first) = cores.first() {
-        set_machines(&mut guesses, p, first.slots());
+    match add_all(&mut guesses, p, cores, w) {
+        Ok(()) => Ok(guesses),
+        Err(memory) => {
+            drop(guesses);
+            Err(memory)
+        }
     }
-    Ok(guesses)
 }

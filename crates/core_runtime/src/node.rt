@@ -60,29 +60,40 @@ impl Node {
         ensures lawful { IfOk result (λ n. IsLawfulNode n []) }
     {
         sound_plans_have_objects();
-        let Beginning {
-            cores,
-            objects,
-            kept,
-        } = begin(alloc, &p, &m, &t)?;
-        let Upkeep {
-            watch,
-            guesses,
-            spare,
-        } = kept;
-        Ok(Node {
-            plan: p,
-            mapping: m,
-            bodies: t,
-            live: Live {
-                cores,
-                objects,
-                watch,
-                entries: Vec::new(alloc),
-                spare,
-            },
-            guesses,
-        })
+        match begin(alloc, &p, &m, &t) {
+            Ok(
+                Beginning {
+                    cores,
+                    objects,
+                    kept,
+                },
+            ) => {
+                let Upkeep {
+                    watch,
+                    guesses,
+                    spare,
+                } = kept;
+                Ok(Node {
+                    plan: p,
+                    mapping: m,
+                    bodies: t,
+                    live: Live {
+                        cores,
+                        objects,
+                        watch,
+                        entries: Vec::new(alloc),
+                        spare,
+                    },
+                    guesses,
+                })
+            }
+            Err(memory) => {
+                drop(p);
+                drop(m);
+                drop(t);
+                Err(memory)
+            }
+        }
     }
 
     /// What it was made with: a plan that is sound with the node's mapping.

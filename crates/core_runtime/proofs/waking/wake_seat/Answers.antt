@@ -1,4 +1,4 @@
-use Rattle.std.proofs.Common.{◌≡◌, ◌<◌, [], get_or, length, sym, ◌∙◌, subst, set}
+use Rattle.std.proofs.Common.{◌≡◌, ◌<◌, [], get_or, length, sym, ◌∙◌, subst, arith, set}
 use Rattle.std.proofs.lemmas.Option.{same_Some, slice_get_within}
 use Rattle.port_objects.specs.Objects.{kept_of}
 use Rattle.core_turn.specs.Awake.{AwakeState}
@@ -7,6 +7,47 @@ use Rattle.latches.proofs.Places.{found_at, set_here}
 use Rattle.core_runtime.proofs.Wakes.{woken_one, woken_same, awake_now, are_set, seen_awake, seen_held}
 use Rattle.core_runtime.proofs.waking.wake_seat.Goals as goal
 use Rattle.core_runtime.proofs.waking.wake_seat.Goals.{else-not-is_awake-via-then-not-is_awake+else-may_start, else-not-is_awake-via-else-not-is_awake}
+
+pub index_mut-core-requires : goal.index_mut-core-requires
+index_mut-core-requires c =
+    let within : c.args.seat.now.core < length c.args.awake.now.items = slice_get_within c.args.awake.now.items c.args.seat.now.core c.requires.there.core c.requires.there.core_is in
+    omega (arith, within)
+
+pub is_awake-requires-clause-slot : goal.is_awake-requires-clause-slot
+is_awake-requires-clause-slot c =
+    let xs = c.args.awake.now.items in
+    let s = c.args.seat.now in
+    let a = c.index_mut-core.result.now in
+    let within : s.core < length xs = slice_get_within xs s.core c.requires.there.core c.requires.there.core_is in
+    let same : c.requires.there.core ≡ a = same_Some _ _ (sym c.requires.there.core_is ∙ found_at xs s.core a within c.index_mut-core.ensures.value) in
+    subst (λ (x : AwakeState). s.slot < length x.slots) same c.requires.there.slot
+
+pub is_awake-requires-clause-place : goal.is_awake-requires-clause-place
+is_awake-requires-clause-place c =
+    let xs = c.args.awake.now.items in
+    let s = c.args.seat.now in
+    let a = c.index_mut-core.result.now in
+    let within : s.core < length xs = slice_get_within xs s.core c.requires.there.core c.requires.there.core_is in
+    let same : c.requires.there.core ≡ a = same_Some _ _ (sym c.requires.there.core_is ∙ found_at xs s.core a within c.index_mut-core.ensures.value) in
+    subst (λ (x : AwakeState). s.place < length (get_or x.events s.slot [])) same c.requires.there.place
+
+pub wake-requires-clause-slot : goal.wake-requires-clause-slot
+wake-requires-clause-slot c =
+    let xs = c.args.awake.now.items in
+    let s = c.args.seat.now in
+    let a = c.index_mut-core.result.now in
+    let within : s.core < length xs = slice_get_within xs s.core c.requires.there.core c.requires.there.core_is in
+    let same : c.requires.there.core ≡ a = same_Some _ _ (sym c.requires.there.core_is ∙ found_at xs s.core a within c.index_mut-core.ensures.value) in
+    subst (λ (x : AwakeState). s.slot < length x.slots) same c.requires.there.slot
+
+pub wake-requires-clause-place : goal.wake-requires-clause-place
+wake-requires-clause-place c =
+    let xs = c.args.awake.now.items in
+    let s = c.args.seat.now in
+    let a = c.index_mut-core.result.now in
+    let within : s.core < length xs = slice_get_within xs s.core c.requires.there.core c.requires.there.core_is in
+    let same : c.requires.there.core ≡ a = same_Some _ _ (sym c.requires.there.core_is ∙ found_at xs s.core a within c.index_mut-core.ensures.value) in
+    subst (λ (x : AwakeState). s.place < length (get_or x.events s.slot [])) same c.requires.there.place
 
 pub wake-requires-clause-waiting : goal.wake-requires-clause-waiting
 wake-requires-clause-waiting c =
