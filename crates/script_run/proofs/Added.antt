@@ -1,5 +1,5 @@
 -- What is added to a session at whose end no run line is open is a session of its own.
-use Rattle.std.proofs.Common.{◌≡◌, ℕ, Bool, true, false, not, ◌&&◌, cond, List, [], ◌∷◌, ◌++◌, Option, refl, sym, ap, ◌∙◌, subst, append_assoc, append-nil}
+use Rattle.std.proofs.Common.{◌≡◌, ℕ, true, false, not, cond, List, [], ◌∷◌, ◌++◌, Option, refl, sym, ap, ◌∙◌, subst, append_assoc, append-nil}
 use Rattle.bus_semantics.specs.Common.{and_from, and_parts, History, is_environment, Plan, Session, made, run_begins, run_closes, Ordered, a_run, orders_of, orders_of_entry}
 use Rattle.bus_semantics.specs.Common.{orders_of_script, is_inside, is_placed, IsSessionOf, IsBeginningOf}
 use Rattle.std.proofs.lemmas.List.{append_cancel_left}
@@ -7,7 +7,7 @@ use Rattle.bus_semantics.specs.declared.script.Line.{Line}
 use Rattle.bus_semantics.specs.declared.script.Mapping.{Mapping}
 use Rattle.core_runtime.specs.Nodes.{NodeState}
 use Rattle.script_run.specs.declared.writing.Writing.{Writing}
-use Rattle.script_run.specs.Standing.{outside, Place, StandsIn, IsCut}
+use Rattle.script_run.specs.Standing.{outside, StandsIn, IsCut}
 
 orders-onto : (items s : Session) → orders_of (items ++ s) ≡ orders_of s ++ orders_of items
 orders-onto [] s = sym (append-nil (orders_of s))

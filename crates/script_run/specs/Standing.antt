@@ -5,7 +5,6 @@ use Rattle.bus_semantics.specs.Common.{closing_text, Wanted}
 use Rattle.rte_text.specs.declared.sink.Put.{Put}
 use Rattle.rte_text.specs.declared.sink.Put.TheVariants as putting
 use Rattle.rte_text.specs.Sinks.{AppendsWhereTold, AppendsPrefixWhereTold, ToldAfter}
-use Rattle.bus_semantics.specs.declared.entries.Actor.TheVariants.{Env}
 use Rattle.bus_semantics.specs.declared.entries.Entry.{Entry}
 use Rattle.bus_semantics.specs.declared.entries.Stamped.{Stamped}
 use Rattle.bus_semantics.specs.declared.script.Mapping.{Mapping}

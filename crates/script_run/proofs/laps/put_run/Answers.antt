@@ -1,9 +1,9 @@
-use Rattle.std.proofs.Common.{◌≤◌, [], ◌∷◌, ◌++◌, refl, subst, ◌∙◌, arith}
+use Rattle.std.proofs.Common.{[], ◌∷◌, ◌++◌, refl, subst, ◌∙◌, arith}
 use Rattle.rte_text.specs.declared.sink.Put.TheVariants.{Done, Failed}
 use Rattle.rte_text.specs.Sinks.{ToldAfter}
 use Rattle.bus_semantics.specs.Run.{a_run}
 use Rattle.script_run.specs.declared.script.ScriptRun.TheVariants.{Finished}
-use Rattle.script_run.specs.Standing.{came_of, inside, outside}
+use Rattle.script_run.specs.Standing.{inside, outside}
 use Rattle.script_run.proofs.Sessions as by
 use Rattle.script_run.proofs.laps.put_run.Goals as goal
 
