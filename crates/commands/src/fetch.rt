@@ -14,7 +14,8 @@ fn fetch_one<S: Shelf>(alloc: Global, shelf: &mut S, name: &str, place: u8) -> R
     ensures fetched { IsFetched (S.files shelf.old) (S.fetches shelf.old) (S.fetches shelf.new) }
     ensures held { IfOk result (λ file. HeldWhereTold (S.files shelf.old) name.now file.items) }
     ensures within { IfOk result (λ file. length file.items ≤ 8388608) }
-    ensures counts { OnOk result (counts_of (S.faults shelf.new) (S.long_files shelf.new) ≡ counts_of (S.faults shelf.old) (S.long_files shelf.old)) }
+    ensures counts { OnOk result (counts_of (S.faults shelf.new) (S.long_files shelf.new) ≡
+        counts_of (S.faults shelf.old) (S.long_files shelf.old)) }
     ensures stopped { IfErr result (IsOneUnfetched (S.files shelf.old) name.now place
         (counts_of (S.faults shelf.old) (S.long_files shelf.old))
         (counts_of (S.faults shelf.new) (S.long_files shelf.new))) }
@@ -35,9 +36,11 @@ pub fn fetch_all<S: Shelf>(
 ) -> Result<Vec<Vec<u8>>, Stop>
     requires few { length names.now < 256 }
     ensures files_stay { S.files shelf.new ≡ S.files shelf.old }
-    ensures held { IfOk result (λ files. AreHeldWhereTold (S.files shelf.old) (map (λ name. name.now) names.now) (map (λ file. file.items) files.items)) }
+    ensures held { IfOk result (λ files. AreHeldWhereTold (S.files shelf.old) (map (λ name. name.now) names.now)
+        (map (λ file. file.items) files.items)) }
     ensures within { IfOk result (λ files. AreWithin (map (λ file. file.items) files.items)) }
-    ensures counts { OnOk result (counts_of (S.faults shelf.new) (S.long_files shelf.new) ≡ counts_of (S.faults shelf.old) (S.long_files shelf.old)) }
+    ensures counts { OnOk result (counts_of (S.faults shelf.new) (S.long_files shelf.new) ≡
+        counts_of (S.faults shelf.old) (S.long_files shelf.old)) }
     ensures stopped { IfErr result (IsUnfetched (S.files shelf.old) (map (λ name. name.now) names.now)
         (counts_of (S.faults shelf.old) (S.long_files shelf.old))
         (counts_of (S.faults shelf.new) (S.long_files shelf.new))

@@ -109,7 +109,8 @@ fn script_over_links(
     requires planned { (c d : List ℕ) × AreDescribed c d nodes.now.one nodes.now.two }
     requires links { links.now ≡ links_of (plan_of nodes.now.one.plan) (plan_of nodes.now.two.plan) }
     requires some { 0 < length links.now }
-    ensures scripted { IfOk result (λ x. IsScriptBy (pair_saying (plan_of nodes.now.one.plan) (plan_of nodes.now.two.plan)) script.now x.lines) }
+    ensures scripted { IfOk result (λ x. IsScriptBy
+        (pair_saying (plan_of nodes.now.one.plan) (plan_of nodes.now.two.plan)) script.now x.lines) }
     ensures stopped { IfErr result (λ why. (c d : List ℕ) → AreDescribed c d nodes.now.one nodes.now.two → IsNotPaired c d script.now why) }
 {
     match read_pair_script(alloc, &nodes.one.plan, links, script) {
@@ -124,7 +125,8 @@ fn link_over(alloc: Global, nodes: &PlannedPair, script: &[u8]) -> Result<Linked
     requires { (c d : List ℕ) × AreDescribed c d nodes.now.one nodes.now.two }
     ensures links { IfOk result (λ x. x.links.items ≡ links_of (plan_of nodes.now.one.plan) (plan_of nodes.now.two.plan)) }
     ensures some { IfOk result (λ x. 0 < length x.links.items) }
-    ensures scripted { IfOk result (λ x. IsScriptBy (pair_saying (plan_of nodes.now.one.plan) (plan_of nodes.now.two.plan)) script.now x.script.lines) }
+    ensures scripted { IfOk result (λ x. IsScriptBy
+        (pair_saying (plan_of nodes.now.one.plan) (plan_of nodes.now.two.plan)) script.now x.script.lines) }
     ensures stopped { IfErr result (λ why. (c d : List ℕ) → AreDescribed c d nodes.now.one nodes.now.two → IsNotPaired c d script.now why) }
 {
     let links = match links_between(alloc, nodes) {

@@ -14,13 +14,15 @@ ghost use Rattle.pair_run.specs.Running.{IsPairLine};
 /// Each line of a script of two nodes is one that the environment of the first may carry out, keeps off the linked elements, and sends
 /// only values within the limits.
 pub fn pair_scripts_are_pair_lines()
-    ensures { (p : Plan) (links : List LinkElem) (bytes : Letters) (lines : List Line) → IsScriptBy (saying_around p (linked_in p links)) bytes lines → All (IsPairLine p links) lines }
+    ensures { (p : Plan) (links : List LinkElem) (bytes : Letters) (lines : List Line) →
+        IsScriptBy (saying_around p (linked_in p links)) bytes lines → All (IsPairLine p links) lines }
 {}
 
 /// On the first node the environment does what the script asks for, but for what it receives from linked elements. On the second it does
 /// of the script the ticks and run lines, and else sends to linked elements alone.
 pub fn each_side_does_its_part()
-    ensures first { (p : Plan) (m : Mapping) (q : Plan) (n : Mapping) (script : List Line) (j : Joint) → All (IsPairLine p (links_of p q)) script →
+    ensures first { (p : Plan) (m : Mapping) (q : Plan) (n : Mapping) (script : List Line) (j : Joint) →
+        All (IsPairLine p (links_of p q)) script →
         IsPairOf p m q n (links_of p q) script j →
         filter (λ o. not (is_link_receive (links_of p q) o)) (orders_of (side_of one j)) ≡ orders_of_script script }
     ensures second { (p : Plan) (m : Mapping) (q : Plan) (n : Mapping) (script : List Line) (j : Joint) →

@@ -107,8 +107,10 @@ pub fn run_pair<R: Threads + Sync, K: Sink, G: Gate, L: Link>(
     requires some { 0 < length links.items }
     requires script { All (IsPairLine (plan_of one.old.plan) links.items) s.now.lines }
     requires way { L.way link.old ≡ [] }
-    ensures finished { result ≡ Finished → PrintsPair (plan_of one.old.plan) one.old.mapping (plan_of two.old.plan) two.old.mapping links.items s.now.lines one.new two.new (K.told out.old) (K.told out.new) }
-    ensures cut { result ≢ Finished → PrintsBegunPair (plan_of one.old.plan) one.old.mapping (plan_of two.old.plan) two.old.mapping links.items s.now.lines (K.told out.old) (K.told out.new) }
+    ensures finished { result ≡ Finished →
+        PrintsPair (plan_of one.old.plan) one.old.mapping (plan_of two.old.plan) two.old.mapping links.items s.now.lines one.new two.new (K.told out.old) (K.told out.new) }
+    ensures cut { result ≢ Finished → PrintsBegunPair (plan_of one.old.plan) one.old.mapping
+        (plan_of two.old.plan) two.old.mapping links.items s.now.lines (K.told out.old) (K.told out.new) }
     ensures sink { SinkFaultsAfter result (K.faults out.old) (K.faults out.new) }
     ensures link { LinkFaultsAfter result (L.faults link.old) (L.faults link.new) }
     ensures sound_link { L.never_fails link.old ≡ true → result ≢ LinkFailed }
@@ -153,7 +155,8 @@ fn put_lines<R: Threads + Sync, K: Sink, G: Gate, L: Link>(
     requires way { L.way way.old ≡ [] }
     requires script { All (IsPairLine (plan_of one.old.plan) unframer.old.links) script_lines.now }
     ensures sound_link { L.never_fails way.old ≡ true → result ≢ LinkFailed }
-    ensures carries { CarryBoth (Follows unframer.old.links script_lines.now) result one.old one.new two.old two.new (K.told out.old) (K.told out.new) }
+    ensures carries { CarryBoth (Follows unframer.old.links script_lines.now) result
+        one.old one.new two.old two.new (K.told out.old) (K.told out.new) }
     ensures sink { SinkFaultsAfter result (K.faults out.old) (K.faults out.new) }
     ensures link { LinkFaultsAfter result (L.faults way.old) (L.faults way.new) }
 {
@@ -199,7 +202,8 @@ fn put_line<R: Threads + Sync, K: Sink, G: Gate, L: Link>(
     ensures after { LinkAfter result (L.way way.new) unframer.old unframer.new }
     ensures sound_link { L.never_fails way.old ≡ true → result ≢ LinkFailed }
     ensures never_fails { L.never_fails way.new ≡ L.never_fails way.old }
-    ensures carries { CarryBoth (Makes unframer.old.links script_line.now) result one.old one.new two.old two.new (K.told out.old) (K.told out.new) }
+    ensures carries { CarryBoth (Makes unframer.old.links script_line.now) result
+        one.old one.new two.old two.new (K.told out.old) (K.told out.new) }
     ensures sink { SinkFaultsAfter result (K.faults out.old) (K.faults out.new) }
     ensures link { LinkFaultsAfter result (L.faults way.old) (L.faults way.new) }
 {
@@ -215,7 +219,8 @@ fn call_one<K: Sink>(one: &mut Node, wish: &Wish, out: &mut K, line: &mut LineBu
     requires fits { wish_fits (plan_of one.old.plan) Env (wanted_of wish.now) ≡ true }
     requires limits { keeps_limits (plan_of one.old.plan) (a_call (wanted_of wish.now)) ≡ true }
     ensures plan { one.new.plan ≡ one.old.plan }
-    ensures carries { (two : NodeState) → CarryBoth (Makes [] (script_line.Call wish.now)) result one.old one.new two two (K.told out.old) (K.told out.new) }
+    ensures carries { (two : NodeState) →
+        CarryBoth (Makes [] (script_line.Call wish.now)) result one.old one.new two two (K.told out.old) (K.told out.new) }
     ensures sink { SinkFaultsAfter result (K.faults out.old) (K.faults out.new) }
     ensures no_link { result ≢ LinkFailed }
 {
@@ -230,7 +235,8 @@ fn call_one<K: Sink>(one: &mut Node, wish: &Wish, out: &mut K, line: &mut LineBu
 fn tick_both<K: Sink>(one: &mut Node, two: &mut Node, count: u32, out: &mut K) -> PairRun
     ensures plan_one { one.new.plan ≡ one.old.plan }
     ensures plan_two { two.new.plan ≡ two.old.plan }
-    ensures carries { CarryBoth (Makes [] (script_line.Tick count)) result one.old one.new two.old two.new (K.told out.old) (K.told out.new) }
+    ensures carries { CarryBoth (Makes [] (script_line.Tick count)) result
+        one.old one.new two.old two.new (K.told out.old) (K.told out.new) }
     ensures sink { SinkFaultsAfter result (K.faults out.old) (K.faults out.new) }
     ensures no_link { result ≢ LinkFailed }
 {
@@ -262,7 +268,8 @@ fn run_both<R: Threads + Sync, K: Sink, G: Gate, L: Link>(
     ensures after { LinkAfter result (L.way way.new) unframer.old unframer.new }
     ensures sound_link { L.never_fails way.old ≡ true → result ≢ LinkFailed }
     ensures never_fails { L.never_fails way.new ≡ L.never_fails way.old }
-    ensures carries { CarryBoth (Makes unframer.old.links script_line.Run) result one.old one.new two.old two.new (K.told out.old) (K.told out.new) }
+    ensures carries { CarryBoth (Makes unframer.old.links script_line.Run) result
+        one.old one.new two.old two.new (K.told out.old) (K.told out.new) }
     ensures sink { SinkFaultsAfter result (K.faults out.old) (K.faults out.new) }
     ensures link { LinkFaultsAfter result (L.faults way.old) (L.faults way.new) }
 {

@@ -33,8 +33,10 @@ fn linked_in(alloc: Global, p: &BusPlan, links: &[LinkElem]) -> Result<Vec<bool>
 pub fn read_pair_script(alloc: Global, p: &BusPlan, links: &[LinkElem], bytes: &[u8]) -> ScriptRead
     requires sound { (m : Mapping) × IsSound (plan_of p.now) m }
     requires few { HasFewNumbers (plan_of p.now) }
-    ensures read { IfRead result (λ lines. IsScriptBy (saying_around (plan_of p.now) (linked_in (plan_of p.now) links.now)) bytes.now lines) }
-    ensures bad_line { IfBadLine result (λ line cause. first_bad (saying_around (plan_of p.now) (linked_in (plan_of p.now) links.now)) [] (lines_of bytes.now) ≡ Some (line, cause)) }
+    ensures read { IfRead result (λ lines. IsScriptBy
+        (saying_around (plan_of p.now) (linked_in (plan_of p.now) links.now)) bytes.now lines) }
+    ensures bad_line { IfBadLine result (λ line cause. first_bad
+        (saying_around (plan_of p.now) (linked_in (plan_of p.now) links.now)) [] (lines_of bytes.now) ≡ Some (line, cause)) }
 {
     match linked_in(alloc, p, links) {
         Ok(linked) => read_script_around(alloc, p, linked.as_slice(), bytes),

@@ -19,8 +19,10 @@ use trace_reading::{Checked, items_have_one_line};
 /// Checks the trace as that of a run of the script. Ok if it is legal.
 fn check_over(alloc: Global, prepared: &Prepared, trace: &[u8]) -> Result<(), Stop>
     requires { (d s : List ℕ) × AreInputs d s prepared.now.found prepared.now.script.lines }
-    ensures legal { OnOk result (IsVerdict (plan_of prepared.now.found.plan) prepared.now.found.mapping prepared.now.script.lines trace.now Legal) }
-    ensures stopped { IfErr result (IsRefusedTrace (plan_of prepared.now.found.plan) prepared.now.found.mapping prepared.now.script.lines trace.now) }
+    ensures legal { OnOk result (IsVerdict
+        (plan_of prepared.now.found.plan) prepared.now.found.mapping prepared.now.script.lines trace.now Legal) }
+    ensures stopped { IfErr result (IsRefusedTrace
+        (plan_of prepared.now.found.plan) prepared.now.found.mapping prepared.now.script.lines trace.now) }
 {
     let found = &prepared.found;
     match check_trace(alloc, &found.plan, &found.mapping, &prepared.script, trace) {

@@ -13,7 +13,8 @@ use trace_reading::traces_have_one_verdict;
 
 /// What a run puts is a legal trace of its script, and no other verdict on it is right.
 pub fn runs_are_legal_traces()
-    ensures legal { (p : Plan) (m : Mapping) (script : List Line) (text : List ℕ) → IsTextOfRun p m script text → IsLegalTrace p m script text }
+    ensures legal { (p : Plan) (m : Mapping) (script : List Line) (text : List ℕ) → IsTextOfRun p m script text →
+        IsLegalTrace p m script text }
     ensures only { (p : Plan) (m : Mapping) (script : List Line) (text : List ℕ) → IsSound p m
         → IsTextOfRun p m script text → (verdict : Checked) → IsVerdict p m script text verdict → verdict ≡ Legal }
 {

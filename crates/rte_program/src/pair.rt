@@ -76,7 +76,8 @@ fn run_nodes<R: Threads + Sync, K: Sink, G: Gate, L: Link>(
     requires some { 0 < length linked.links.items }
     requires scripted { (s : List ℕ) × IsScriptBy (pair_saying (plan_of nodes.one.plan) (plan_of nodes.two.plan)) s linked.script.lines }
     requires way { L.way link.old ≡ [] }
-    ensures run { IsLinkedRun (plan_of nodes.one.plan) nodes.one.mapping (plan_of nodes.two.plan) nodes.two.mapping linked.script.lines result
+    ensures run { IsLinkedRun (plan_of nodes.one.plan) nodes.one.mapping
+        (plan_of nodes.two.plan) nodes.two.mapping linked.script.lines result
         (K.told out.old) (K.told out.new) (K.faults out.old) (K.faults out.new) }
     ensures sound_link { L.never_fails link.old ≡ true → result ≢ LinkFailed }
 {
@@ -105,7 +106,8 @@ pub fn run_linked<R: Threads + Sync, K: Sink, G: Gate, L: Link>(
     requires ready { (c d s : List ℕ) × ArePairInputs c d s prepared.nodes.one prepared.nodes.two prepared.linked.script.lines }
     requires links { prepared.linked.links.items ≡ links_of (plan_of prepared.nodes.one.plan) (plan_of prepared.nodes.two.plan) }
     requires way { L.way link.old ≡ [] }
-    ensures run { IsLinkedRun (plan_of prepared.nodes.one.plan) prepared.nodes.one.mapping (plan_of prepared.nodes.two.plan) prepared.nodes.two.mapping
+    ensures run { IsLinkedRun (plan_of prepared.nodes.one.plan) prepared.nodes.one.mapping
+        (plan_of prepared.nodes.two.plan) prepared.nodes.two.mapping
         prepared.linked.script.lines result (K.told out.old) (K.told out.new) (K.faults out.old) (K.faults out.new) }
     ensures sound_link { L.never_fails link.old ≡ true → result ≢ LinkFailed }
 {
@@ -138,7 +140,8 @@ fn run_prepared_pair<R: Threads + Sync, K: Sink, G: Gate>(
 ) -> Status
     requires ready { (c d s : List ℕ) × ArePairInputs c d s prepared.nodes.one prepared.nodes.two prepared.linked.script.lines }
     requires links { prepared.linked.links.items ≡ links_of (plan_of prepared.nodes.one.plan) (plan_of prepared.nodes.two.plan) }
-    ensures { IsPairRun (plan_of prepared.nodes.one.plan) prepared.nodes.one.mapping (plan_of prepared.nodes.two.plan) prepared.nodes.two.mapping
+    ensures { IsPairRun (plan_of prepared.nodes.one.plan) prepared.nodes.one.mapping
+        (plan_of prepared.nodes.two.plan) prepared.nodes.two.mapping
         prepared.linked.script.lines result (K.told out.old) (K.told out.new) (K.faults out.old) (K.faults out.new) }
 {
     let mut link = match make_link(alloc) {

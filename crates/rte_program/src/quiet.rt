@@ -51,7 +51,8 @@ pub fn rte_quiet<S: Shelf, K: Sink>(
     ensures files_stay { S.files shelf.new ≡ S.files shelf.old }
 
     // When the answers come.
-    ensures always_words { IfSome result (λ status. command_of (map string_bytes words.now) ≡ None → ¬ Rose (K.faults out.old) (K.faults out.new)
+    ensures always_words { IfSome result (λ status. command_of (map string_bytes words.now) ≡ None →
+        ¬ Rose (K.faults out.old) (K.faults out.new)
         → status ≡ Status.Words) }
     ensures comes { IfSome result (λ status. (command : Command) (files : List (List ℕ)) (verdict : Verdict)
         → command_of (map string_bytes words.now) ≡ Some command → AreHeld (S.files shelf.old) (files_of command) files → IsVerdictOn command files verdict

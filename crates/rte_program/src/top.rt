@@ -64,7 +64,8 @@ pub fn rte_top<R: Threads + Wait + Sync, S: Shelf, K: Sink, G: Gate>(
     ensures files_stay { S.files shelf.new ≡ S.files shelf.old }
 
     // When the answers come.
-    ensures always_words { command_of (map string_bytes words.now) ≡ None → ¬ Rose (K.faults out.old) (K.faults out.new) → result ≡ Status.Words }
+    ensures always_words { command_of (map string_bytes words.now) ≡ None → ¬ Rose (K.faults out.old) (K.faults out.new) →
+        result ≡ Status.Words }
     ensures comes { (command : Command) (files : List (List ℕ)) (verdict : Verdict)
         → command_of (map string_bytes words.now) ≡ Some command → AreHeld (S.files shelf.old) (files_of command) files → IsVerdictOn command files verdict
         → AnswersUnlessFault command files verdict result (K.told out.old) (K.told out.new)

@@ -42,7 +42,8 @@ fn put_round<R: Threads + Sync, K: Sink, G: Gate>(
     ensures plan { n.new.plan ≡ n.old.plan }
     ensures mapping { n.new.mapping ≡ n.old.mapping }
     ensures room { result ≡ Finished → n.new.mapping.cores ≤ n.new.spare }
-    ensures carries { (made : ℕ) → Carries w result [] (inside made) (inside (min (made + length n.new.entries) (2 ^ 64 - 1))) n.old n.new (K.told out.old) (K.told out.new) }
+    ensures carries { (made : ℕ) → Carries w result [] (inside made)
+        (inside (min (made + length n.new.entries) (2 ^ 64 - 1))) n.old n.new (K.told out.old) (K.told out.new) }
     ensures faults { FaultsAfter result (K.faults out.old) (K.faults out.new) }
 {
     match run_round(rt, alloc, n, gate) {

@@ -17,8 +17,10 @@ pub fn runs_from_nothing_are_runs()
 /// What is added to a session outside its run lines, by the orders of a script, is a session of that script; and a beginning of one,
 /// if it was cut off.
 pub fn what_is_added_is_a_session()
-    ensures whole { (p : Plan) (m : Mapping) (h : History) (orders : List Ordered) (old new : NodeState) (s items : Session) (script : List Line)
+    ensures whole { (p : Plan) (m : Mapping) (h : History) (orders : List Ordered) (old new : NodeState) (s items : Session)
+        (script : List Line)
         → StandsIn p m h orders outside old s → StandsIn p m h (orders ++ orders_of_script script) outside new (items ++ s) → IsSessionOf script items }
-    ensures cut { (w : Writing) (p : Plan) (m : Mapping) (h : History) (orders : List Ordered) (old : NodeState) (s : Session) (script : List Line) (before after : Option (List ℕ))
+    ensures cut { (w : Writing) (p : Plan) (m : Mapping) (h : History) (orders : List Ordered) (old : NodeState) (s : Session)
+        (script : List Line) (before after : Option (List ℕ))
         → StandsIn p m h orders outside old s → (cut : IsCut w p m h (orders ++ orders_of_script script) s before after) → IsBeginningOf script cut.items }
 {}
