@@ -55,9 +55,19 @@ fn new_nodes(alloc: Global, nodes: PlannedPair) -> Result<NewNodes, AllocError>
     ensures lawful_two { IfOk result (λ x. IsLawfulNode x.two []) }
 {
     let PlannedPair { one, two } = nodes;
-    let one = new_node(alloc, one)?;
-    let two = new_node(alloc, two)?;
-    Ok(NewNodes { one, two })
+    match new_node(alloc, one) {
+        Ok(one) => match new_node(alloc, two) {
+            Ok(two) => Ok(NewNodes { one, two }),
+            Err(memory) => {
+                drop(one);
+                Err(memory)
+            }
+        },
+        Err(memory) => {
+            drop(two);
+            Err(memory)
+        }
+    }
 }
 
 /// Runs the script on two nodes to which nothing has happened, over this link, and puts the traces of both.
@@ -151,7 +161,9 @@ fn run_prepared_pair<R: Threads + Sync, K: Sink, G: Gate>(
             return Status::Memory;
         }
     };
-    match run_linked(rt, alloc, prepared, &mut link, out, gate) {
+    let run = run_linked(rt, alloc, prepared, &mut link, out, gate);
+    drop(link);
+    match run {
         PairRun::Finished => Status::Done,
         PairRun::Failed => Status::NotWritten,
         PairRun::Memory => Status::Memory,
