@@ -67,14 +67,20 @@ fn ends_in<'a>(alloc: Global, names: &PrototypeNames, value: &'a Value) -> Resul
     requires { IsSmall (view value.now) }
     ensures { IfOk result (λ ends. ends ≡ ends_in names.now (view value.now)) }
 {
-    let prototypes = declared(alloc, value, "prototypes")?;
     let types = read_list(alloc, names, items_at(value, "prototypes"))?;
-    let outer = declared(alloc, value, "ports")?;
-    Ok(Ends {
-        prototypes,
-        types,
-        outer,
-    })
+    let prototypes = declared(alloc, value, "prototypes")?;
+    match declared(alloc, value, "ports") {
+        Ok(outer) => Ok(Ends {
+            prototypes,
+            types,
+            outer,
+        }),
+        Err(memory) => {
+            drop(prototypes);
+            drop(types);
+            Err(memory)
+        }
+    }
 }
 
 /// A composition's ends, with the ports of all types.
