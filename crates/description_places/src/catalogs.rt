@@ -260,6 +260,25 @@ fn areas_of<'a>(alloc: Global, value: &'a Value) -> Result<NameList<'a>, Memory>
     NameList::of(alloc, names)
 }
 
+/// The variables and the runnables by their short names.
+fn names_of<'a>(
+    alloc: Global,
+    variables: &'a [Value],
+    runnables: &'a [Value],
+) -> Result<(NameList<'a>, NameList<'a>), Memory>
+    ensures variables { IfOk result (λ names. names.0 ≡ short_names (map view variables.now)) }
+    ensures runnables { IfOk result (λ names. names.1 ≡ short_names (map view runnables.now)) }
+{
+    let variables = named(alloc, variables)?;
+    match named(alloc, runnables) {
+        Ok(runnables) => Ok((variables, runnables)),
+        Err(memory) => {
+            drop(variables);
+            Err(memory)
+        }
+    }
+}
+
 /// What the behavior of a component declares.
 fn behavior_lists<'a>(alloc: Global, value: &'a Value) -> Result<BehaviorLists<'a>, Memory>
     ensures { IfOk result (λ lists. lists ≡ behavior_lists (value_at (codes "behavior") (view value.now))) }
@@ -269,15 +288,21 @@ fn behavior_lists<'a>(alloc: Global, value: &'a Value) -> Result<BehaviorLists<'
     let accesses = access_firsts(alloc, listed)?;
     let events = event_firsts(alloc, value)?;
     let areas = areas_of(alloc, value)?;
-    let variables = named(alloc, variables)?;
-    let runnables = named(alloc, listed)?;
-    Ok(BehaviorLists {
-        areas,
-        variables,
-        runnables,
-        accesses,
-        events,
-    })
+    match names_of(alloc, variables, listed) {
+        Ok((variables, runnables)) => Ok(BehaviorLists {
+            areas,
+            variables,
+            runnables,
+            accesses,
+            events,
+        }),
+        Err(memory) => {
+            drop(areas);
+            drop(events);
+            drop(accesses);
+            Err(memory)
+        }
+    }
 }
 
 fn component_lists<'a>(
@@ -416,21 +441,28 @@ fn prototype_lists<'a>(
 {
     let listed = items_at(value, "components");
     let composed = items_at(value, "compositions");
+    let in_components = in_components(alloc, interfaces, listed)?;
     let components = named(alloc, listed)?;
     let compositions = named(alloc, composed)?;
-    let in_components = in_components(alloc, interfaces, listed)?;
     let known = Known {
         interfaces,
         components: &components,
         compositions: &compositions,
     };
-    let in_compositions = in_compositions(alloc, &known, composed)?;
-    Ok(PrototypeLists {
-        components,
-        compositions,
-        in_components,
-        in_compositions,
-    })
+    match in_compositions(alloc, &known, composed) {
+        Ok(in_compositions) => Ok(PrototypeLists {
+            components,
+            compositions,
+            in_components,
+            in_compositions,
+        }),
+        Err(memory) => {
+            drop(components);
+            drop(compositions);
+            drop(in_components);
+            Err(memory)
+        }
+    }
 }
 
 fn mapping_lists<'a>(alloc: Global, value: &'a Value) -> Result<MappingLists<'a>, Memory>
@@ -441,18 +473,60 @@ fn mapping_lists<'a>(alloc: Global, value: &'a Value) -> Result<MappingLists<'a>
     Ok(MappingLists { tasks, positions })
 }
 
+/// What the description declares, whose mapping and types are these.
+fn catalog_with<'a>(
+    alloc: Global,
+    value: &'a Value,
+    mapping: MappingLists<'a>,
+    types: TypeLists<'a>,
+) -> Result<Catalog<'a>, Memory>
+    requires mapping { mapping ≡ mapping_lists (value_at (codes "mapping") (view value.now)) }
+    requires types { types ≡ type_lists (view value.now) }
+    ensures { IfOk result (λ catalog. catalog ≡ catalog_of (view value.now)) }
+{
+    match joined_lists(alloc, value) {
+        Ok((interfaces, prototypes)) => Ok(Catalog {
+            types,
+            interfaces,
+            prototypes,
+            mapping,
+        }),
+        Err(memory) => {
+            drop(mapping);
+            drop(types);
+            Err(memory)
+        }
+    }
+}
+
+/// The interfaces, and the components and compositions over them.
+fn joined_lists<'a>(
+    alloc: Global,
+    value: &'a Value,
+) -> Result<(InterfaceLists<'a>, PrototypeLists<'a>), Memory>
+    ensures interfaces { IfOk result (λ made. made.0 ≡ interface_lists (view value.now)) }
+    ensures prototypes { IfOk result (λ made. made.1 ≡ (catalog_of (view value.now)).prototypes) }
+{
+    let interfaces = interface_lists(alloc, value)?;
+    match prototype_lists(alloc, &interfaces.names, value) {
+        Ok(prototypes) => Ok((interfaces, prototypes)),
+        Err(memory) => {
+            drop(interfaces);
+            Err(memory)
+        }
+    }
+}
+
 /// What the description declares.
 pub fn catalog_of<'a>(alloc: Global, value: &'a Value) -> Result<Catalog<'a>, Memory>
     ensures { IfOk result (λ catalog. catalog ≡ catalog_of (view value.now)) }
 {
     let mapping = mapping_lists(alloc, value)?;
-    let types = type_lists(alloc, value)?;
-    let interfaces = interface_lists(alloc, value)?;
-    let prototypes = prototype_lists(alloc, &interfaces.names, value)?;
-    Ok(Catalog {
-        types,
-        interfaces,
-        prototypes,
-        mapping,
-    })
+    match type_lists(alloc, value) {
+        Ok(types) => catalog_with(alloc, value, mapping, types),
+        Err(memory) => {
+            drop(mapping);
+            Err(memory)
+        }
+    }
 }
