@@ -22,3 +22,4 @@ mod Accepted
 pub mod TextCuts
 mod Reached
 mod SameBytes
+mod Lookups

@@ -1,0 +1,14 @@
+use Rattle.std.proofs.Common.{◌∙◌, None}
+use Rattle.bus_semantics.specs.Common.{instance_of, plan_of}
+use Rattle.bus_laws.specs.Common.{EventPlan}
+use Rattle.trace_reading.proofs.Lookups.{looked_at, looked_past, keyed, labelled}
+use Rattle.trace_reading.proofs.tables.event_key.Goals as goal
+
+pub returns-in-Some : goal.returns-in-Some
+returns-in-Some c =
+    keyed (c.place.ensures ∙ c.instance_of.ensures) c.bytes.ensures
+    ∙ looked_at (λ (v : EventPlan). labelled (instance_of (plan_of c.args.p.now) v.runnable) v.name) None c.items.result.now c.args.p.now.events c.args.at c.in-Some.event.now c.items.ensures c.in-Some.ensures.lookup.3.0 c.in-Some.ensures.lookup.1
+
+pub returns-in-None : goal.returns-in-None
+returns-in-None c =
+    looked_past _ None c.items.result.now c.args.p.now.events c.args.at c.items.ensures c.in-None.ensures.lookup.3

@@ -1,0 +1,13 @@
+use Rattle.std.proofs.Common.{◌∙◌, None}
+use Rattle.bus_laws.specs.Common.{MachinePlan}
+use Rattle.trace_reading.proofs.Lookups.{looked_at, looked_past, keyed, labelled}
+use Rattle.trace_reading.proofs.tables.machine_key.Goals as goal
+
+pub returns-in-Some : goal.returns-in-Some
+returns-in-Some c =
+    keyed c.place.ensures c.bytes.ensures
+    ∙ looked_at (λ (n : MachinePlan). labelled n.instance n.name) None c.items.result.now c.args.p.now.machines c.args.at c.in-Some.machine.now c.items.ensures c.in-Some.ensures.lookup.3.0 c.in-Some.ensures.lookup.1
+
+pub returns-in-None : goal.returns-in-None
+returns-in-None c =
+    looked_past _ None c.items.result.now c.args.p.now.machines c.args.at c.items.ensures c.in-None.ensures.lookup.3

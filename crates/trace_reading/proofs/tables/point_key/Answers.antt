@@ -1,0 +1,13 @@
+use Rattle.std.proofs.Common.{◌∙◌, None}
+use Rattle.bus_laws.specs.Common.{PointPlan}
+use Rattle.trace_reading.proofs.Lookups.{looked_at, looked_past, keyed, labelled}
+use Rattle.trace_reading.proofs.tables.point_key.Goals as goal
+
+pub returns-in-Some : goal.returns-in-Some
+returns-in-Some c =
+    keyed c.place.ensures c.bytes.ensures
+    ∙ looked_at (λ (t : PointPlan). labelled t.runnable t.name) None c.items.result.now c.args.p.now.points c.args.at c.in-Some.point.now c.items.ensures c.in-Some.ensures.lookup.3.0 c.in-Some.ensures.lookup.1
+
+pub returns-in-None : goal.returns-in-None
+returns-in-None c =
+    looked_past _ None c.items.result.now c.args.p.now.points c.args.at c.items.ensures c.in-None.ensures.lookup.3
