@@ -56,8 +56,8 @@ work_all-requires-clause-ready g c = λ κs lives i w found.
     b.1.opened env.2 b.3 b.1.queue c.seat_all-workers.result.items c.seat_all-workers.ensures.cores caller refl env.1 (c.total.ensures ∙ ap sum (c.lengths.ensures ∙ sym c.requires.lengths)) c.requires.room i w
     (subst (λ (ws : List Worker). slice_get ws i ≡ Some w) is found)
 
-pub close-requires-clause-cores : goal.close-requires-clause-cores
-close-requires-clause-cores g c =
+pub close-requires : goal.close-requires
+close-requires g c =
     let b = c.requires.begun in
     let p = plan_of c.args.p.now in
     let t = c.args.t.now in
@@ -77,52 +77,11 @@ close-requires-clause-cores g c =
     let same : length after ≡ length c.join_all-workers.result.items = c.work_all.ensures.count ∙ ap (λ (ws : List Worker). length ws) c.as_mut_slice.ensures.value in
     let rest = c.truncate.ensures.items ∙ left ls p t feeds b.0 r cores seats own env.0 c.args.begun.queued b.1.opened env.2 b.3 b.1.queue c.join_all-workers.result.items after c.join_all-workers.result.len c.len-count.result same (omega arith) (omega arith) w in
     let long = left_long ls p t feeds b.0 r cores seats own env.0 c.args.begun.queued b.1.opened env.2 b.3 b.1.queue after w in
-    (b.1.places.cores.0, omega (arith, ap (λ (ws : List Worker). length ws) rest, long, b.1.places.cores.1))
-
-pub close-requires-clause-seats : goal.close-requires-clause-seats
-close-requires-clause-seats g c =
-    let b = c.requires.begun in
-    let p = plan_of c.args.p.now in
-    let t = c.args.t.now in
-    let feeds = c.args.feeds.now in
-    let r = c.args.begun.round in
-    let cores = c.args.begun.cores.items in
-    let seats = c.args.begun.seats.items in
-    let own = c.pop.new.self.items in
-    let ls = g.F.Feeding.lengths in
-    let env = last_seat seats own c.pop.result (length cores) c.args.begun.seats.len c.pop.new.self.len c.pop.ensures.items (omega arith) (b.1.opened.seated.count ∙ b.1.opened.number) c.pop.ensures.cases in
-    let caller : Caller = record { pump = c.args.begun.queued.pump; seat = c.pop.result; wishes = c.total.result } in
-    let first = c.seat_all-workers.result.items in
-    let is : c.as_mut_slice.result.now ≡ first ++ all_outside caller c.args.begun.queued.feeders = c.as_mut_slice.ensures.value ∙ c.join_all-workers.ensures.all in
-    let after : List Worker = c.work_all.new.workers in
-    let w = worked ls p t feeds b.0 r cores seats own env.0 c.args.begun.queued b.1.opened env.2 b.3 b.1.queue first c.seat_all-workers.ensures.cores caller refl env.1 (c.total.ensures ∙ ap sum (c.lengths.ensures ∙ sym c.requires.lengths))
-    after (subst (λ (ws : List Worker). HaveWorked p t feeds r ws after) is c.work_all.ensures) in
-    let same : length after ≡ length c.join_all-workers.result.items = c.work_all.ensures.count ∙ ap (λ (ws : List Worker). length ws) c.as_mut_slice.ensures.value in
-    let rest = c.truncate.ensures.items ∙ left ls p t feeds b.0 r cores seats own env.0 c.args.begun.queued b.1.opened env.2 b.3 b.1.queue c.join_all-workers.result.items after c.join_all-workers.result.len c.len-count.result same (omega arith) (omega arith) w in
-    let long = left_long ls p t feeds b.0 r cores seats own env.0 c.args.begun.queued b.1.opened env.2 b.3 b.1.queue after w in
-    (b.1.places.seats.0, omega (arith, ap (λ (ws : List Worker). length ws) rest, long, b.1.places.seats.1))
-
-pub close-requires-clause-done : goal.close-requires-clause-done
-close-requires-clause-done g c =
-    let b = c.requires.begun in
-    let p = plan_of c.args.p.now in
-    let t = c.args.t.now in
-    let feeds = c.args.feeds.now in
-    let r = c.args.begun.round in
-    let cores = c.args.begun.cores.items in
-    let seats = c.args.begun.seats.items in
-    let own = c.pop.new.self.items in
-    let ls = g.F.Feeding.lengths in
-    let env = last_seat seats own c.pop.result (length cores) c.args.begun.seats.len c.pop.new.self.len c.pop.ensures.items (omega arith) (b.1.opened.seated.count ∙ b.1.opened.number) c.pop.ensures.cases in
-    let caller : Caller = record { pump = c.args.begun.queued.pump; seat = c.pop.result; wishes = c.total.result } in
-    let first = c.seat_all-workers.result.items in
-    let is : c.as_mut_slice.result.now ≡ first ++ all_outside caller c.args.begun.queued.feeders = c.as_mut_slice.ensures.value ∙ c.join_all-workers.ensures.all in
-    let after : List Worker = c.work_all.new.workers in
-    let w = worked ls p t feeds b.0 r cores seats own env.0 c.args.begun.queued b.1.opened env.2 b.3 b.1.queue first c.seat_all-workers.ensures.cores caller refl env.1 (c.total.ensures ∙ ap sum (c.lengths.ensures ∙ sym c.requires.lengths))
-    after (subst (λ (ws : List Worker). HaveWorked p t feeds r ws after) is c.work_all.ensures) in
-    let same : length after ≡ length c.join_all-workers.result.items = c.work_all.ensures.count ∙ ap (λ (ws : List Worker). length ws) c.as_mut_slice.ensures.value in
-    let rest = c.truncate.ensures.items ∙ left ls p t feeds b.0 r cores seats own env.0 c.args.begun.queued b.1.opened env.2 b.3 b.1.queue c.join_all-workers.result.items after c.join_all-workers.result.len c.len-count.result same (omega arith) (omega arith) w in
-    (p, t, feeds, cores, w.lanes, w.caller, is_done ls p t feeds b.0 r cores seats own env.0 c.args.begun.queued b.1.opened env.2 b.3 b.1.queue after w, rest)
+    record {
+      cores = (b.1.places.cores.0, omega (arith, ap (λ (ws : List Worker). length ws) rest, long, b.1.places.cores.1));
+      seats = (b.1.places.seats.0, omega (arith, ap (λ (ws : List Worker). length ws) rest, long, b.1.places.seats.1));
+      done = (p, t, feeds, cores, w.lanes, w.caller, is_done ls p t feeds b.0 r cores seats own env.0 c.args.begun.queued b.1.opened env.2 b.3 b.1.queue after w, rest);
+    }
 
 pub returns : goal.returns
 returns g c = λ objects begun planned.
