@@ -73,7 +73,8 @@ fn act_on(
     ensures core { seat.new.core ≡ seat.old.core }
     ensures view { view_of seat.new ≡ view_of seat.old }
     ensures capacity { vec_capacity seat.new.made ≡ vec_capacity seat.old.made }
-    ensures filled { (held : Object) → seat.old.place.me.1 ≡ (object, held) ∷ [] → HasFilled (plan_of p.now) object who.now (wanted_of wish.now) held seat.old seat.new result }
+    ensures filled { (held : Object) → seat.old.place.me.1 ≡ (object, held) ∷ [] →
+        HasFilled (plan_of p.now) object who.now (wanted_of wish.now) held seat.old seat.new result }
 {
     let at = seat.made.len();
     seat.made.push_reserved(Stamped {
@@ -95,7 +96,8 @@ fn keep_entry(top: &Top, seat: &mut CoreSeat, object: u32) -> u64
     requires words { top.now.table_id.words ≡ suc top.now.table_id.slots }
     requires within { object < top.now.table_id.slots }
     requires opening { (view_of seat.old).opening ≡ Some top.now.key }
-    requires keeps { (before : List Stamped) × (last : Stamped) × (seat.old.made.items ≡ before ++ last ∷ []) × IsToKeep top.now.key seat.old.place.me object last.entry last.event }
+    requires keeps { (before : List Stamped) × (last : Stamped) × (seat.old.made.items ≡ before ++ last ∷ [])
+        × IsToKeep top.now.key seat.old.place.me object last.entry last.event }
     requires room { length (view_of seat.old).made < top.now.key.room }
     ensures table { seat.new.place.table_id ≡ seat.old.place.table_id }
     ensures core { seat.new.core ≡ seat.old.core }
