@@ -54,7 +54,14 @@ impl Ticks {
         ensures only { (event : ℕ) → wanted_of wish.now ≡ to_tick → Contains self.new.woken event → (may_start self.old.kept event ≡ false) × (may_start self.new.kept event ≡ true) }
     {
         match wish {
-            Wish::Tick => self.tick_by(who, out),
+            Wish::Tick => {
+                self.tick();
+                *out = Entry {
+                    actor: *who,
+                    deed: Deed::Tick,
+                };
+                Filled::Done
+            }
             Wish::Start { event } => self.start(who, *event, out),
             _ => Filled::NotYet(Shown::Unmatched),
         }
@@ -62,7 +69,8 @@ impl Ticks {
 
     /// A tick of the clock (SWS_RTE: TimingEvent): what a wish of it makes, without the entry. It takes no memory.
     pub fn tick(&mut self)
-        ensures answer { (p : Plan) (a : Actor) → IsAnswerOf p lead may_start why_held a to_tick self.old.kept self.new.kept (Done (record { actor = a; deed = Tick })) }
+        ensures answer { (p : Plan) (a : Actor) →
+            IsAnswerOf p lead may_start why_held a to_tick self.old.kept self.new.kept (Done (record { actor = a; deed = Tick })) }
         ensures planned { (p : Plan) (object : ℕ) → IsOfPlan p object self.old.kept → IsOfPlan p object self.new.kept }
         ensures kept { self.new.kept ≡ after_tick self.old.kept }
         ensures told { (event : ℕ) → may_start self.old.kept event ≡ false → may_start self.new.kept event ≡ true → Contains self.new.woken event }
@@ -70,22 +78,6 @@ impl Ticks {
     {
         self.clock
             .tick_and_tell(self.timings.as_slice(), &mut self.woken);
-    }
-
-    /// A tick by the actor.
-    fn tick_by(&mut self, who: &Actor, out: &mut Entry) -> Filled
-        ensures answer { (p : Plan) → IsAnswerOf p lead may_start why_held who.now to_tick self.old.kept self.new.kept (acted result out.new) }
-        ensures kept { self.new.kept ≡ after_tick self.old.kept }
-        ensures same { (shown : Shown) → result ≡ filled.NotYet shown → self.new ≡ self.old }
-        ensures told { (event : ℕ) → may_start self.old.kept event ≡ false → may_start self.new.kept event ≡ true → Contains self.new.woken event }
-        ensures only { (event : ℕ) → Contains self.new.woken event → (may_start self.old.kept event ≡ false) × (may_start self.new.kept event ≡ true) }
-    {
-        self.tick();
-        *out = Entry {
-            actor: *who,
-            deed: Deed::Tick,
-        };
-        Filled::Done
     }
 
     /// The start by an event for the actor, if it is pending.
