@@ -10,7 +10,3 @@ use Rattle.object_kinds.specs.Kinds.{acted}
 pub not_filled : (r : Filled) (out : Entry) (shown : Shown) → acted r out ≡ NotYet shown → r ≡ filled.NotYet shown
 not_filled filled.Done out shown is = absurd (cc is)
 not_filled (filled.NotYet other) out shown is = let same : other ≡ shown = cc is in ap (λ s. filled.NotYet s) same
-
-pub was_filled : (r : Filled) (out e : Entry) → acted r out ≡ Done e → (r ≡ filled.Done) × (out ≡ e)
-was_filled filled.Done out e is = let same : out ≡ e = cc is in (refl, same)
-was_filled (filled.NotYet shown) out e is = absurd (cc is)
