@@ -12,6 +12,7 @@ pub mod Accesses
 pub mod Programs
 pub mod Activations
 pub mod Actor
+pub mod Initial
 pub mod Unqueued
 pub mod Queued
 pub mod Calls

@@ -55,7 +55,7 @@ fn initial_value(p: &BusPlan, elem: u32) -> Value
     ensures { result ≡ initial_of (plan_of p.now) elem }
 {
     match p.elements.items().get(elem as usize) {
-        Some(element) => element.init,
+        Some(element) => element.init.value(),
         None => Value::empty(),
     }
 }

@@ -8,7 +8,7 @@ ghost use Rattle.plan_elements.specs.Ends.{joined_at};
 use crate::groups::Groups;
 use crate::said::{given_by, init_of, limits_of, never_received_by, queue_by, words_of};
 use crate::types::{declared_in, kind_declared, type_at, type_declared, variable_at};
-use bus_semantics::{ElemKind, ElemPlan};
+use bus_semantics::{ElemKind, ElemPlan, InitValue};
 use description_types::{ComSpec, DataElement, DataType, Variable};
 use plan_definitions::{Site, SiteKind};
 use plan_numbers::{Source, interface_at, port_of, text_at, variable_name};
@@ -37,24 +37,26 @@ struct Item<'a> {
 }
 
 fn item_plan(
+    alloc: Global,
     source: &Source<'_>,
     links: Links,
     site: Site,
     port: u32,
     item: Item<'_>,
     name: Text,
-) -> ElemPlan
+) -> Result<ElemPlan, Memory>
     requires joined { links.joined ≡ joined_at source.now.f.now.joins site }
     requires port { site.port ≡ Some port }
     requires declared { option_copied item.declared ≡ declared_at source.now.d.now source.now.f.now site.owner port site.item }
     requires spec { option_copied item.spec ≡ com_spec_of source.now.d.now source.now.f.now site.owner port site.item }
     requires name { name ≡ site_name source.now.d.now source.now.f.now site }
-    ensures { elem_seen result ≡ element_of source.now.d.now source.now.f.now links.group site }
+    ensures { IfOk result (λ e. elem_seen e ≡ element_of source.now.d.now source.now.f.now links.group site) }
 {
     let kind = kind_declared(item.declared);
     let found = type_declared(source, item.declared);
     let given = given_by(site.kind, kind, item.spec);
-    ElemPlan {
+    let init = InitValue::new(alloc, init_of(given, found))?;
+    Ok(ElemPlan {
         instance: site.owner,
         name,
         kind,
@@ -63,10 +65,10 @@ fn item_plan(
         group: links.group,
         limits: limits_of(found),
         words: words_of(found),
-        init: init_of(given, found),
+        init,
         never_received: never_received_by(site.kind, kind, item.spec),
         queue_length: queue_by(site.kind, kind, item.spec),
-    }
+    })
 }
 
 fn push_item(
@@ -88,7 +90,7 @@ fn push_item(
         spec: source.com_spec_of(site.owner, port, site.item),
     };
     let name = text_at(alloc, found, kind, site.item)?;
-    list.push(item_plan(source, links, site, port, item, name))?;
+    list.push(item_plan(alloc, source, links, site, port, item, name)?)?;
     Ok(())
 }
 
@@ -104,16 +106,23 @@ fn given_to_variable(variable: Option<&Variable>) -> Option<&Seq<Word>>
     variable?.init_value.as_ref()
 }
 
-fn variable_plan(source: &Source<'_>, links: Links, site: Site, name: Text) -> ElemPlan
+fn variable_plan(
+    alloc: Global,
+    source: &Source<'_>,
+    links: Links,
+    site: Site,
+    name: Text,
+) -> Result<ElemPlan, Memory>
     requires joined { links.joined ≡ joined_at source.now.f.now.joins site }
     requires port { site.port ≡ None }
     requires name { name ≡ site_name source.now.d.now source.now.f.now site }
-    ensures { elem_seen result ≡ element_of source.now.d.now source.now.f.now links.group site }
+    ensures { IfOk result (λ e. elem_seen e ≡ element_of source.now.d.now source.now.f.now links.group site) }
 {
     let variable = variable_at(source, site.owner, site.item);
     let found = type_of_variable(source, variable);
     let given = given_to_variable(variable);
-    ElemPlan {
+    let init = InitValue::new(alloc, init_of(given, found))?;
+    Ok(ElemPlan {
         instance: site.owner,
         name,
         kind: ElemKind::Variable,
@@ -122,10 +131,10 @@ fn variable_plan(source: &Source<'_>, links: Links, site: Site, name: Text) -> E
         group: links.group,
         limits: limits_of(found),
         words: words_of(found),
-        init: init_of(given, found),
+        init,
         never_received: false,
         queue_length: 1,
-    }
+    })
 }
 
 fn push_variable(
@@ -141,7 +150,7 @@ fn push_variable(
 {
     let text = variable_name(source.d, source.f, site.owner, site.item);
     let name = Text::new(alloc, text)?;
-    list.push(variable_plan(source, links, site, name))?;
+    list.push(variable_plan(alloc, source, links, site, name)?)?;
     Ok(())
 }
 
