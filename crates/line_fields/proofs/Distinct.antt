@@ -1,5 +1,6 @@
--- Lists of names, each once.
-use Rattle.std.proofs.Common.{◌≡◌, ℕ, zero, suc, ◌<◌, Bool, true, false, not, ◌==◌, List, [], ◌∷◌, map, Some, refl, ap, ◌∙◌, subst, arith}
+-- Lists of names, each once, and lists side by side.
+use Rattle.std.proofs.Common.{◌≡◌, ℕ, zero, suc, ◌<◌, Bool, true, false, not, ◌==◌, List, [], ◌∷◌, map, length, get_or, Some, refl, ap, ◌∙◌, subst, arith}
+use Rattle.std.specs.List.{AllZip}
 use Rattle.bus_semantics.specs.Common.{list_all, list_any, slice_get, option_map, and_parts, and_from, eq-eqb, or_parts, slice_get-map, Named, named_once, same_named, same_numbers}
 
 not_true : (b : Bool) → not b ≡ true → b ≡ false
@@ -35,3 +36,17 @@ pub all_at : {X : Type 0} (test : X → Bool) (xs : List X) (i : ℕ) (x : X) �
 all_at {X} test [] i x h e = absurd (cc)
 all_at {X} test (y ∷ ys) zero x h e = let same : y ≡ x = cc in subst (λ z. test z ≡ true) same (and_parts (test y) (list_all test ys) h).0
 all_at {X} test (y ∷ ys) (suc i) x h e = all_at {X = X} test ys i x (and_parts (test y) (list_all test ys) h).1 e
+
+-- ---- lists of which each item of one belongs to the one at the same place of the other
+
+pub as_many : {A B : Type 0} (R : A → B → Type 0) (xs : List A) (ys : List B) → AllZip R xs ys → length ys ≡ length xs
+as_many R [] [] are = refl
+as_many R [] (y ∷ ys) are = absurd are
+as_many R (x ∷ xs) [] are = absurd are
+as_many R (x ∷ xs) (y ∷ ys) are = ap suc (as_many R xs ys are.1)
+
+pub at_place : {A B : Type 0} (R : A → B → Type 0) (xs : List A) (ys : List B) (i : ℕ) (d : A) (e : B) → AllZip R xs ys → i < length xs → R (get_or xs i d) (get_or ys i e)
+at_place R [] ys i d e are less = let none : ⊥ = omega (arith, less) in absurd none
+at_place R (x ∷ xs) [] i d e are less = absurd are
+at_place R (x ∷ xs) (y ∷ ys) zero d e are less = are.0
+at_place R (x ∷ xs) (y ∷ ys) (suc i) d e are less = at_place R xs ys i d e are.1 (omega (arith, less))

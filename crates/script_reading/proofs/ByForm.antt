@@ -1,22 +1,10 @@
 -- Maps of what forms are for, in the order of the forms.
-use Rattle.std.proofs.Common.{◌≡◌, ℕ, zero, suc, ◌<◌, List, [], ◌∷◌, length, get_or, arith, ap, refl}
-use Rattle.std.specs.List.{AllZip}
+use Rattle.std.proofs.Common.{◌≡◌, ℕ, ◌<◌, List, length, get_or, arith}
 use Rattle.bus_semantics.specs.Common.{Bor, Letters, Plan}
 use Rattle.indexmap.specs.IndexMap.{IndexMap}
+use Rattle.line_fields.proofs.Distinct.{as_many, at_place}
 use Rattle.script_reading.specs.Index.{AreIndexes, HasIndexes, IsIndex, forms, place_of}
 use Rattle.script_reading.specs.Common.{Form, Write, Send, Read, Receive, Ask, TakeResult, Switch, SeeMode}
-
-as_many : {A B : Type 0} (R : A → B → Type 0) (xs : List A) (ys : List B) → AllZip R xs ys → length ys ≡ length xs
-as_many R [] [] are = refl
-as_many R [] (y ∷ ys) are = absurd are
-as_many R (x ∷ xs) [] are = absurd are
-as_many R (x ∷ xs) (y ∷ ys) are = ap suc (as_many R xs ys are.1)
-
-at_place : {A B : Type 0} (R : A → B → Type 0) (xs : List A) (ys : List B) (i : ℕ) (d : A) (e : B) → AllZip R xs ys → i < length xs → R (get_or xs i d) (get_or ys i e)
-at_place R [] ys i d e are less = let none : ⊥ = omega (arith, less) in absurd none
-at_place R (x ∷ xs) [] i d e are less = absurd are
-at_place R (x ∷ xs) (y ∷ ys) zero d e are less = are.0
-at_place R (x ∷ xs) (y ∷ ys) (suc i) d e are less = at_place R xs ys i d e are.1 (omega (arith, less))
 
 few : (f : Form) → place_of f < 7
 few Write = omega arith
