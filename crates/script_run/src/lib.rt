@@ -8,8 +8,8 @@
 //! **How are lines put?** One put for each line, from a buffer of fixed room. So a fault cuts within a known line, and running a
 //! script takes no memory of its own.
 //!
-//! **Why is the line of a tick not written by `write_entry`?** It is the same in every version and over every plan (`tick_line`), and
-//! scripts have many ticks.
+//! **Why is the line of a tick not written by `write_entry`?** It is the same in every version and over every plan
+//! (`trace_text::tick_line`), and scripts have many ticks.
 //!
 //! **What does a script go on from?** `run_script` speaks of each history for which the node is lawful, so that a node can go on
 //! after other calls. The program gives it a new node, and the history is empty.

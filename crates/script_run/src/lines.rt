@@ -1,11 +1,9 @@
 //! Lines of the trace, each put at once.
 
 ghost use Rattle.std.specs.Prelude.{◌≡◌, true};
-ghost use Rattle.bus_semantics.specs.Common.{list_all, plan_of, IsSound, Plan, entry_text};
+ghost use Rattle.bus_semantics.specs.Common.{list_all, plan_of, IsSound, entry_text};
 ghost use Rattle.rte_text.specs.Sinks.{SinkFaultsAfter, ToldAfter};
 ghost use Rattle.bus_semantics.specs.declared.script.Mapping.{Mapping};
-ghost use Rattle.bus_semantics.specs.declared.version.Version.{Version};
-ghost use Rattle.core_runtime.specs.Common.{tick_of_env};
 ghost use Rattle.script_run.specs.Sizes.{is_sized_entry, is_sized_stamped};
 ghost use Rattle.script_run.specs.Standing.{came_of};
 ghost use Rattle.script_run.specs.Texts.{behind, entries_text};
@@ -25,13 +23,6 @@ pub(crate) fn came_of(put: Put) -> ScriptRun
         Put::Done => ScriptRun::Finished,
         Put::Failed => ScriptRun::Failed,
     }
-}
-
-/// The line of a tick, which is the same in every version and over every plan.
-pub(crate) fn tick_line() -> &'static [u8]
-    ensures { (v : Version) (p : Plan) → result.now ≡ entry_text v p tick_of_env }
-{
-    b"env tick\n"
 }
 
 /// Puts the line of an entry. `line` is only room for it.

@@ -12,7 +12,7 @@ ghost use Rattle.script_run.specs.Running.{FaultsAfter, PrintsBeginning, PrintsF
 ghost use Rattle.script_run.specs.Standing.{Calls, Carries, outside};
 
 use crate::laps::put_run;
-use crate::lines::{came_of, put_entry, tick_line};
+use crate::lines::{came_of, put_entry};
 use crate::writing::{Writing, put_behind};
 use bus_semantics::{Entry, Line, Script, Version, Wish};
 use core_runtime::Node;
@@ -20,7 +20,7 @@ use no_stall::no_history_stalls;
 use rte_text::{Gate, LineBuf, Put, Sink};
 use std::alloc::Global;
 use std::thread::Threads;
-use trace_text::header;
+use trace_text::{header, tick_line};
 
 /// How far a script was carried out.
 #[derive(Clone, Copy, Debug, PartialEq, Eq)]

@@ -20,6 +20,7 @@ use std::alloc::Global;
 use task_machine::{Next, TaskSet};
 use trace_objects::{Unrest, go_on, make, may_rest, tick};
 use trace_reading::{behind, behind_line_of, sound_plans_are_readable};
+use trace_text::tick_line;
 use trace_walks::{Runners, Walks};
 
 /// What is kept of a bus along a trace: its objects, what may come on them of its own, its activations, and which of them run.
@@ -167,7 +168,7 @@ impl BusState {
         ensures { IfOk result (λ behind. IfSome behind (λ more. (h : History) → IsLegal (plan_in rules.now) h → StateStands rules.now.tasks.now (plan_in rules.now) h self.old →
             Asks (plan_in rules.now) h Env to_tick → GoesOnBy rules.now h Env to_tick text.now more.now self.new)) }
     {
-        let Some(more) = behind(text, b"env tick\n") else {
+        let Some(more) = behind(text, tick_line()) else {
             return Ok(None);
         };
         if !tick(rules.plan, &mut self.objects, &mut self.unrest) {

@@ -10,7 +10,8 @@
 //! is a difference of two numbers. An entry that does not fit the plan has a line too, by the defaults of `look`.
 //!
 //! **Who writes the lines that are no entries?** `trace_text`, by `header`, `run_line`, `idle_line` and `unsettled_line`, so that
-//! each text of a trace is made in one crate.
+//! each text of a trace is made in one crate. The line of a tick stands there too (`tick_line`), since it is the same in every version
+//! and over every plan, and scripts have very many.
 #![tactic(auto)]
 
 mod actors;
@@ -20,4 +21,4 @@ mod lines;
 mod lists;
 mod names;
 
-pub use lines::{header, idle_line, run_line, unsettled_line, write_entry};
+pub use lines::{header, idle_line, run_line, tick_line, unsettled_line, write_entry};

@@ -2,6 +2,8 @@
 
 ghost use Rattle.std.specs.Prelude.{◌≡◌, [], true};
 ghost use Rattle.bus_semantics.specs.declared.version.Version.{Version};
+ghost use Rattle.bus_semantics.specs.declared.entries.Actor.TheVariants.{Env};
+ghost use Rattle.bus_semantics.specs.declared.entries.Deed.TheVariants.{Tick};
 ghost use Rattle.bus_semantics.specs.Common.{Plan, plan_of, idle, run_begins, unsettled, lists_sound, names_fit, closing_text, entry_text, header, item_text};
 ghost use Rattle.trace_text.specs.Appending.{Appends};
 ghost use Rattle.trace_text.specs.Short.{IsShort};
@@ -20,6 +22,13 @@ pub fn header(v: Version) -> &'static [u8]
         Version::One => b"rte-trace 1\n",
         Version::Two => b"rte-trace 2\n",
     }
+}
+
+/// The line of a tick, which is the same in every version and over every plan.
+pub fn tick_line() -> &'static [u8]
+    ensures { (v : Version) (p : Plan) → result.now ≡ entry_text v p (record { actor = Env; deed = Tick }) }
+{
+    b"env tick\n"
 }
 
 /// The line with which a run line begins.

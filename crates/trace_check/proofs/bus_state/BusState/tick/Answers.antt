@@ -1,4 +1,4 @@
-use Rattle.std.proofs.Common.{◌≡◌, true, refl, rules}
+use Rattle.std.proofs.Common.{◌≡◌, true, ◌++◌, refl, subst, rules}
 use Rattle.bus_semantics.specs.Common.{and_from}
 use Rattle.port_objects.specs.Common.{tick_of_env}
 use Rattle.trace_check.specs.Along.{plan_in}
@@ -49,7 +49,7 @@ returns c = λ h legal stands asks.
       entry = tick_of_env;
       actor = refl;
       wanted = refl;
-      begins = record { fit = and_from _ _ makes.fit refl; whole = c.in-Some.ensures };
+      begins = record { fit = and_from _ _ makes.fit refl; whole = subst (λ line. c.args.text.now ≡ line ++ c.in-Some.more.now) (c.tick_line.ensures r.version p) c.in-Some.ensures };
       legal = later;
       stands = record {
         planned = c.tick.ensures.planned;
