@@ -1,7 +1,7 @@
 //! The data elements and variables of a plan.
 
 ghost use Rattle.std.specs.Prelude.{◌≡◌, [], ◌∷◌, ◌++◌, IfOk, None, OnOk, Some, false, map, option_and_then, option_copied, slice_get};
-ghost use Rattle.plan_definitions.specs.Common.{com_spec_of, site_name, declared_at, elem_seen, element_of, elements, group_of, is_provided};
+ghost use Rattle.plan_definitions.specs.Common.{elem_seen, element_of, elements, group_of, is_provided};
 ghost use Rattle.plan_elements.specs.Grouped.{AreGroups};
 ghost use Rattle.plan_elements.specs.Ends.{joined_at};
 
@@ -9,7 +9,7 @@ use crate::groups::Groups;
 use crate::said::{given_by, init_of, limits_of, never_received_by, queue_by, words_of};
 use crate::types::{declared_in, kind_declared, type_at, type_declared, variable_at};
 use bus_semantics::{ElemKind, ElemPlan, InitValue};
-use description_types::{ComSpec, DataElement, DataType, Variable};
+use description_types::{DataType, Variable};
 use plan_definitions::{Site, SiteKind};
 use plan_numbers::{Source, interface_at, port_of, text_at, variable_name};
 use rte_text::{Memory, Seq, Text};
@@ -29,69 +29,38 @@ struct Links {
     joined: bool,
 }
 
-/// What an interface declares of an item, and what its port says of it.
-#[derive(Clone, Copy)]
-struct Item<'a> {
-    declared: Option<&'a DataElement>,
-    spec: Option<&'a ComSpec>,
-}
-
+/// The plan of an item of a port.
 fn item_plan(
     alloc: Global,
     source: &Source<'_>,
     links: Links,
     site: Site,
     port: u32,
-    item: Item<'_>,
-    name: Text,
 ) -> Result<ElemPlan, Memory>
     requires joined { links.joined ≡ joined_at source.now.f.now.joins site }
     requires port { site.port ≡ Some port }
-    requires declared { option_copied item.declared ≡ declared_at source.now.d.now source.now.f.now site.owner port site.item }
-    requires spec { option_copied item.spec ≡ com_spec_of source.now.d.now source.now.f.now site.owner port site.item }
-    requires name { name ≡ site_name source.now.d.now source.now.f.now site }
     ensures { IfOk result (λ e. elem_seen e ≡ element_of source.now.d.now source.now.f.now links.group site) }
 {
-    let kind = kind_declared(item.declared);
-    let found = type_declared(source, item.declared);
-    let given = given_by(site.kind, kind, item.spec);
-    let init = InitValue::new(alloc, init_of(given, found))?;
+    let declaring = port_of(source.d, source.f, site.owner, port);
+    let interface = interface_at(source.d, declaring);
+    let declared = declared_in(interface, site.item);
+    let spec = source.com_spec_of(site.owner, port, site.item);
+    let kind = kind_declared(declared);
+    let found = type_declared(source, declared);
+    let init = init_of(given_by(site.kind, kind, spec), found);
     Ok(ElemPlan {
         instance: site.owner,
-        name,
+        name: text_at(alloc, declaring, interface, site.item)?,
         kind,
         provided: is_provided(site.kind),
         joined: links.joined,
         group: links.group,
         limits: limits_of(found),
         words: words_of(found),
-        init,
-        never_received: never_received_by(site.kind, kind, item.spec),
-        queue_length: queue_by(site.kind, kind, item.spec),
+        init: InitValue::new(alloc, init)?,
+        never_received: never_received_by(site.kind, kind, spec),
+        queue_length: queue_by(site.kind, kind, spec),
     })
-}
-
-fn push_item(
-    list: &mut Vec<ElemPlan>,
-    alloc: Global,
-    source: &Source<'_>,
-    links: Links,
-    site: Site,
-    port: u32,
-) -> Result<(), Memory>
-    requires joined { links.joined ≡ joined_at source.now.f.now.joins site }
-    requires port { site.port ≡ Some port }
-    ensures { OnOk result (map elem_seen list.new.items ≡ map elem_seen list.old.items ++ element_of source.now.d.now source.now.f.now links.group site ∷ []) }
-{
-    let found = port_of(source.d, source.f, site.owner, port);
-    let kind = interface_at(source.d, found);
-    let item = Item {
-        declared: declared_in(kind, site.item),
-        spec: source.com_spec_of(site.owner, port, site.item),
-    };
-    let name = text_at(alloc, found, kind, site.item)?;
-    list.push(item_plan(alloc, source, links, site, port, item, name)?)?;
-    Ok(())
 }
 
 fn type_of_variable(source: &Source<'_>, variable: Option<&Variable>) -> Option<DataType>
@@ -106,52 +75,34 @@ fn given_to_variable(variable: Option<&Variable>) -> Option<&Seq<Word>>
     variable?.init_value.as_ref()
 }
 
+/// The plan of a variable.
 fn variable_plan(
     alloc: Global,
     source: &Source<'_>,
     links: Links,
     site: Site,
-    name: Text,
 ) -> Result<ElemPlan, Memory>
     requires joined { links.joined ≡ joined_at source.now.f.now.joins site }
     requires port { site.port ≡ None }
-    requires name { name ≡ site_name source.now.d.now source.now.f.now site }
     ensures { IfOk result (λ e. elem_seen e ≡ element_of source.now.d.now source.now.f.now links.group site) }
 {
     let variable = variable_at(source, site.owner, site.item);
     let found = type_of_variable(source, variable);
-    let given = given_to_variable(variable);
-    let init = InitValue::new(alloc, init_of(given, found))?;
+    let init = init_of(given_to_variable(variable), found);
+    let name = variable_name(source.d, source.f, site.owner, site.item);
     Ok(ElemPlan {
         instance: site.owner,
-        name,
+        name: Text::new(alloc, name)?,
         kind: ElemKind::Variable,
         provided: is_provided(site.kind),
         joined: links.joined,
         group: links.group,
         limits: limits_of(found),
         words: words_of(found),
-        init,
+        init: InitValue::new(alloc, init)?,
         never_received: false,
         queue_length: 1,
     })
-}
-
-fn push_variable(
-    list: &mut Vec<ElemPlan>,
-    alloc: Global,
-    source: &Source<'_>,
-    links: Links,
-    site: Site,
-) -> Result<(), Memory>
-    requires joined { links.joined ≡ joined_at source.now.f.now.joins site }
-    requires port { site.port ≡ None }
-    ensures { OnOk result (map elem_seen list.new.items ≡ map elem_seen list.old.items ++ element_of source.now.d.now source.now.f.now links.group site ∷ []) }
-{
-    let text = variable_name(source.d, source.f, site.owner, site.item);
-    let name = Text::new(alloc, text)?;
-    list.push(variable_plan(alloc, source, links, site, name)?)?;
-    Ok(())
 }
 
 fn push_element(
@@ -164,10 +115,12 @@ fn push_element(
     requires { links.joined ≡ joined_at source.now.f.now.joins site }
     ensures { OnOk result (map elem_seen list.new.items ≡ map elem_seen list.old.items ++ element_of source.now.d.now source.now.f.now links.group site ∷ []) }
 {
-    match site.port {
-        None => push_variable(list, alloc, source, links, site),
-        Some(port) => push_item(list, alloc, source, links, site, port),
-    }
+    let plan = match site.port {
+        None => variable_plan(alloc, source, links, site)?,
+        Some(port) => item_plan(alloc, source, links, site, port)?,
+    };
+    list.push(plan)?;
+    Ok(())
 }
 
 fn elements_at(
