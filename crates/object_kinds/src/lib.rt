@@ -26,10 +26,12 @@
 
 mod acted;
 mod places;
+mod short_values;
 mod waiting;
 
 pub use acted::{Acted, Filled, Shown};
 pub use places::find;
+pub use short_values::only_word;
 pub use waiting::{append_to, bundle_events, empty_lists, take_list};
 
 /// There was no memory for what a call makes.

@@ -1,7 +1,7 @@
 use Rattle.std.proofs.Common.{◌≤◌, ◌<◌, sym, arith, length, get_or}
 use Rattle.std.proofs.lemmas.List.Sorted.{searched}
 use Rattle.object_kinds.proofs.Rising.{rising_pairs, place_below, place_found, rising_below, nowhere}
-use Rattle.object_kinds.proofs.places.find.Goals as goal
+use Rattle.object_kinds.proofs.places.search.Goals as goal
 
 pub overflow_cast-result : goal.overflow_cast-result
 overflow_cast-result c =
