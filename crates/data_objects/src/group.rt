@@ -1,6 +1,6 @@
 //! A group of unqueued data elements with the plan's events that wait for it.
 
-ghost use Rattle.std.specs.Prelude.{◌≡◌, ◌<◌, ◌≤◌, ◌+◌, ◌⊎◌, ℕ, count_by, length, not, true, false, Some};
+ghost use Rattle.std.specs.Prelude.{◌≡◌, ◌<◌, ◌≤◌, ◌+◌, ◌⊎◌, ℕ, count_by, length, not, true, false, Some, is_some};
 ghost use Rattle.bus_semantics.specs.Common.{Contains, vec_capacity, words_of, Plan, plan_of, look, groups_fit, to_start, to_fetch, to_write, to_read, to_invalidate, to_see_updated};
 ghost use Rattle.bus_semantics.specs.Common.{to_publish, wanted_of, object_of, touched};
 ghost use Rattle.object_kinds.specs.declared.acted.Shown.{Shown};
@@ -12,7 +12,8 @@ ghost use Rattle.data_objects.specs.Kept.{may_start};
 ghost use Rattle.data_objects.specs.Leading.{group_lead, lead, why_held, read_code_by, value_in, wakes};
 ghost use Rattle.data_objects.specs.Plans.{IsGroupOfPlan, IsOfPlan};
 
-use crate::unqueued::{ReadState, Unqueued};
+use crate::filling::{fill_read, fill_write};
+use crate::unqueued::Unqueued;
 use bus_semantics::{Actor, BusPlan, Deed, ElemKind, ElemPlan, Entry, Wish};
 use object_kinds::{Filled, Shown, find};
 use rte_value::{Code, Value};
@@ -69,12 +70,12 @@ pub(crate) fn read_code(element: &ElemPlan, invalid: bool, seen: bool) -> Code
     }
 }
 
-/// The code of a read by an element, where this was found.
-fn code_for(p: &BusPlan, elem: u32, state: &ReadState) -> Code
-    ensures { result ≡ look p.now.elements elem (λ e. read_code_by e state.now.invalid state.now.seen) 0 }
+/// The code of a read by an element, where this is kept.
+fn code_for(p: &BusPlan, elem: u32, kept: &Unqueued) -> Code
+    ensures { result ≡ look p.now.elements elem (λ e. read_code_by e kept.now.invalid (is_some kept.now.stored)) 0 }
 {
     match p.elements.items().get(elem as usize) {
-        Some(element) => read_code(element, state.invalid, state.seen),
+        Some(element) => read_code(element, kept.is_invalid(), kept.is_written()),
         None => 0,
     }
 }
@@ -147,13 +148,7 @@ impl Group {
     {
         self.unqueued
             .write_and_tell(value, self.events.as_slice(), &mut self.woken);
-        *out = Entry {
-            actor: *who,
-            deed: Deed::Write {
-                elem,
-                value: *value,
-            },
-        };
+        fill_write(who, elem, value, out);
         Filled::Done
     }
 
@@ -223,16 +218,9 @@ impl Group {
     {
         match receiver(p, group, elem) {
             Some(receiver) => {
-                let state = self.unqueued.read(receiver);
-                let code = code_for(p, elem, &state);
-                *out = Entry {
-                    actor: *who,
-                    deed: Deed::Read {
-                        elem,
-                        code,
-                        value: state.value,
-                    },
-                };
+                let code = code_for(p, elem, &self.unqueued);
+                fill_read(who, elem, code, self.unqueued.value(receiver), out);
+                self.unqueued.note_read(receiver);
                 Filled::Done
             }
             None => Filled::NotYet(Shown::Unmatched),

@@ -15,6 +15,7 @@
 #![tactic(auto)]
 
 mod events;
+mod filling;
 mod flags;
 mod group;
 mod laws;
@@ -28,7 +29,7 @@ pub use laws::{
     first_group_stands_for_nothing, leads_are_legal, leads_miss_nothing,
     other_entries_wake_nothing, starts_go_by_flags,
 };
-pub use unqueued::{ReadState, Unqueued};
+pub use unqueued::Unqueued;
 
 /// There was no memory for what a call makes.
 pub type Memory = std::alloc::AllocError;

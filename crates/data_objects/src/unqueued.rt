@@ -7,6 +7,7 @@ ghost use Rattle.data_objects.specs.KeptValues.{fresh, after_write, after_invali
 
 use crate::Memory;
 use crate::flags::Flags;
+use object_kinds::only_word;
 use rte_value::Value;
 use std::alloc::Global;
 use std::marker::Model;
@@ -36,15 +37,14 @@ impl Model for Unqueued {
     ghost invariant = { λ u. (length u.updated ≡ length u.inits.items) × (length u.due ≡ length u.events.items) };
 }
 
-/// What a read finds.
-#[derive(Clone, Copy)]
-pub struct ReadState {
-    /// The last value that was written or published, else the initial value of the receiver.
-    pub value: Value,
-    /// Something was written or published.
-    pub seen: bool,
-    /// The last write, publication or invalidation is an invalidation.
-    pub invalid: bool,
+/// Keeps a value in the place of what is there. One of one word is made anew there, for less than it takes to copy the room of 16.
+fn keep(stored: &mut Option<Value>, value: &Value)
+    ensures { stored.new ≡ Some value.now }
+{
+    match only_word(value) {
+        Some(word) => *stored = Some(Value::of_word(word)),
+        None => *stored = Some(*value),
+    }
 }
 
 impl Unqueued {
@@ -70,7 +70,7 @@ impl Unqueued {
     pub fn write(&mut self, value: &Value)
         ensures kept { self.new ≡ after_write value.now self.old }
     {
-        self.stored = Some(*value);
+        keep(&mut self.stored, value);
         self.invalid = false;
         self.updated.set_all();
         self.due.set_all();
@@ -93,7 +93,7 @@ impl Unqueued {
         ensures only { (name : ℕ) → Contains woken.new.items name → IsOfClear self.old.due names.now name }
         ensures capacity { vec_capacity woken.new ≡ vec_capacity woken.old }
     {
-        self.stored = Some(*value);
+        keep(&mut self.stored, value);
         self.invalid = false;
         self.updated.set_all();
         woken.clear();
@@ -123,10 +123,35 @@ impl Unqueued {
         ensures room { length woken.new.items + count_by not self.new.due ≤ length woken.old.items + count_by not self.old.due }
         ensures capacity { vec_capacity woken.new ≡ vec_capacity woken.old }
     {
-        self.stored = Some(*value);
+        keep(&mut self.stored, value);
         self.invalid = false;
         self.updated.set_all();
         self.due.set_and_tell(names, woken);
+    }
+
+    /// The value of a receiver, where it lies: the last one that was written or published, else the receiver's initial value.
+    pub fn value(&self, receiver: u32) -> &Value
+        requires { receiver < length self.now.inits }
+        ensures { Some result.now ≡ value_for receiver self.now }
+    {
+        match &self.stored {
+            Some(value) => value,
+            None => &self.inits[receiver as usize],
+        }
+    }
+
+    /// Whether something was written or published.
+    pub fn is_written(&self) -> bool
+        ensures { result ≡ is_some self.now.stored }
+    {
+        self.stored.is_some()
+    }
+
+    /// Whether the last write, publication or invalidation is an invalidation.
+    pub fn is_invalid(&self) -> bool
+        ensures { result ≡ self.now.invalid }
+    {
+        self.invalid
     }
 
     /// Marks the group as invalid (Rte_Invalidate). No value, update flag or pending event changes.
@@ -136,21 +161,12 @@ impl Unqueued {
         self.invalid = true;
     }
 
-    /// Reads for a receiver, and clears its update flag (Rte_Read, Rte_IrvRead).
-    pub fn read(&mut self, receiver: u32) -> ReadState
+    /// A receiver has read its value, so its update flag is cleared (Rte_Read, Rte_IrvRead).
+    pub fn note_read(&mut self, receiver: u32)
         requires { receiver < length self.old.inits }
-        ensures value { Some result.value ≡ value_for receiver self.old }
-        ensures seen { result.seen ≡ is_some self.old.stored }
-        ensures invalid { result.invalid ≡ self.old.invalid }
-        ensures kept { self.new ≡ after_read receiver self.old }
+        ensures { self.new ≡ after_read receiver self.old }
     {
-        let value = self.fetch(receiver);
         self.updated.clear(receiver as usize);
-        ReadState {
-            value,
-            seen: self.stored.is_some(),
-            invalid: self.invalid,
-        }
     }
 
     /// The value of a receiver, for an activation that reads implicitly (Rte_IRead, Rte_IrvIRead). It clears no update flag.
@@ -158,10 +174,7 @@ impl Unqueued {
         requires { receiver < length self.now.inits }
         ensures { Some result ≡ value_for receiver self.now }
     {
-        match self.stored {
-            Some(value) => value,
-            None => self.inits[receiver as usize],
-        }
+        *self.value(receiver)
     }
 
     /// Whether something was written or published since the receiver's last read (Rte_IsUpdated).

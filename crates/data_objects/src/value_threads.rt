@@ -1,12 +1,11 @@
 //! What passes between threads.
 
-use crate::{ReadState, Unqueued};
+use crate::Unqueued;
 
 /// Is called only if values of the type may be moved to and shared with other threads.
 fn passes<T: Send + Sync>() {}
 
-/// Groups and what a read finds pass.
+/// What groups keep passes.
 fn show_what_passes() {
     passes::<Unqueued>();
-    passes::<ReadState>();
 }
