@@ -22,6 +22,14 @@ pub fn touched_object(p: &BusPlan, entry: &Entry, event: Option<u32>) -> Option<
         | Deed::Send { elem, .. }
         | Deed::Receive { elem, .. }
         | Deed::Publish { elem, .. } => p.bundle_of(*elem),
+        Deed::Start { event, .. } => object_of(p, &entry.actor, &Wish::Start { event: *event }),
+        Deed::Ask { point, .. } | Deed::Answer { point, .. } | Deed::TakeResult { point, .. } => {
+            object_of(p, &entry.actor, &Wish::Answer { point: *point })
+        }
+        Deed::End => match event {
+            Some(event) => object_of(p, &entry.actor, &Wish::End { event }),
+            None => None,
+        },
         _ => touched_by_wish(p, entry, event),
     }
 }
