@@ -7,6 +7,7 @@ ghost use Rattle.object_kinds.specs.Common.{acted, given};
 ghost use Rattle.server_objects.specs.Acting.{IsActed, IsAskedAt, IsReturned, IsStart, IsTaken};
 ghost use Rattle.server_objects.specs.Kept.{awaiting, has_next, told_where};
 
+use crate::filling::{fill_answer, fill_ask, fill_return, fill_served_start};
 use crate::server_object::ServerObject;
 use bus_semantics::{Actor, Deed, Entry};
 use client_server::Outcome;
@@ -24,14 +25,7 @@ impl ServerObject {
         match self.place_of(point) {
             Some(place) => {
                 let code = self.ask_at(place, value);
-                *out = Entry {
-                    actor: *who,
-                    deed: Deed::Ask {
-                        point,
-                        value: *value,
-                        code,
-                    },
-                };
+                fill_ask(who, point, value, code, out);
                 Filled::Done
             }
             None => Filled::NotYet(Shown::Unmatched),
@@ -81,14 +75,7 @@ impl ServerObject {
         match self.place_of(point) {
             Some(place) => match self.server.answer(place) {
                 Some(outcome) => {
-                    *out = Entry {
-                        actor: *who,
-                        deed: Deed::Answer {
-                            point,
-                            code: outcome.code,
-                            value: outcome.value,
-                        },
-                    };
+                    fill_answer(who, point, &outcome, out);
                     Filled::Done
                 }
                 None => Filled::NotYet(Shown::NotReturned(point)),
@@ -179,11 +166,12 @@ impl ServerObject {
         }
         match self.server.start() {
             Some(request) => {
-                *deed = Deed::Start {
+                fill_served_start(
                     event,
-                    point: Some(self.points[request.point as usize]),
-                    value: request.value,
-                };
+                    self.points[request.point as usize],
+                    &request.value,
+                    deed,
+                );
                 true
             }
             None => false,
@@ -249,13 +237,7 @@ impl ServerObject {
             None => false,
         };
         if is_returned {
-            *out = Entry {
-                actor: *who,
-                deed: Deed::Return {
-                    code,
-                    value: *value,
-                },
-            };
+            fill_return(who, code, value, out);
             Filled::Done
         } else {
             Filled::NotYet(Shown::Unmatched)

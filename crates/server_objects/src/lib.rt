@@ -2,6 +2,7 @@
 #![tactic(auto)]
 
 mod acting;
+mod filling;
 mod gathering;
 mod laws;
 mod making;

@@ -19,8 +19,9 @@ returns-after-answer c =
     let there : place q i.points.items ≡ Some c.in-Some.place = ap (λ (z : ServerState). place q z.kept.points) c.self.view_is ∙ sym c.place_of.ensures.place ∙ c.in-Some.is in
     elim c.match-answer.branch [
       | in-Some-answer w ↦ subst (IsActed c.args.who.now (to_hear q) c.args.self.now new) (λ t. acted (sym w.result-is t) (sym w.out-is t))
+          (subst (Leads c.args.who.now (to_hear q) c.args.self.now new) (λ t. record { actor = sym w.fill_answer.ensures.actor t; deed = sym w.fill_answer.ensures.deed t })
           (subst (λ old. Leads c.args.who.now (to_hear q) old new (record { actor = c.args.who.now; deed = deed.Answer q w.in-Some-answer.outcome.code w.in-Some-answer.outcome.value })) c.self.view_is
-          (hear_leads c.args.who.now q c.in-Some.place w.in-Some-answer.outcome kept c.answer.new.self i.woken.items i.heard there (sym w.in-Some-answer.is ∙ c.answer.ensures.answer) c.answer.ensures.kept))
+          (hear_leads c.args.who.now q c.in-Some.place w.in-Some-answer.outcome kept c.answer.new.self i.woken.items i.heard there (sym w.in-Some-answer.is ∙ c.answer.ensures.answer) c.answer.ensures.kept)))
       | in-None-answer w ↦ subst (IsActed c.args.who.now (to_hear q) c.args.self.now new) (λ t. acted (sym w.result-is t) (sym w.out-is t))
           (subst (λ old. IsActed c.args.who.now (to_hear q) old new (NotYet (NotReturned q))) c.self.view_is
           (hear_holds c.args.who.now q (record { kept = kept; woken = i.woken.items; heard = i.heard }) new (NotReturned q) refl

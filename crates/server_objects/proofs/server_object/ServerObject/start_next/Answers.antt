@@ -3,7 +3,7 @@ use Rattle.std.specs.Prelude.{IsSome, IfSome}
 use Rattle.bus_semantics.specs.Common.{slice_get, slice_get-get_or}
 use Rattle.client_server.specs.declared.point.Request.{Request}
 use Rattle.object_kinds.specs.Common.{given}
-use Rattle.server_objects.specs.Acting.{IsStart}
+use Rattle.server_objects.specs.Acting.{IsStart, StartLeads}
 use Rattle.server_objects.specs.Kept.{Kept, ServerState}
 use Rattle.server_objects.proofs.Acted.{state, next_leads, next_none, no_point}
 use Rattle.server_objects.proofs.server_object.ServerObject.start_next.Goals as goal
@@ -26,7 +26,8 @@ returns c =
           let within : r.point < length i.points.items = omega (arith, inside, c.self.invariant.many) in
           let at : slice_get i.points.items r.point ≡ Some w.index.result.now = slice_get-get_or i.points.items r.point w.index.result.now within ∙ ap (λ n. Some n) (sym w.index.ensures) in
           subst (IsStart None c.args.event (record { kept = kept; woken = i.woken.items; heard = i.heard }) new) (λ t. given (sym w.result-is t) (sym w.deed-is t))
-          (next_leads kept c.start.new.self i.woken.items i.heard c.args.event r w.index.result.now same queued (sym w.in-Some.is ∙ c.start.ensures.answer) c.start.ensures.kept at)
+          (subst (StartLeads None c.args.event (record { kept = kept; woken = i.woken.items; heard = i.heard }) new) (sym w.fill_served_start.ensures)
+          (next_leads kept c.start.new.self i.woken.items i.heard c.args.event r w.index.result.now same queued (sym w.in-Some.is ∙ c.start.ensures.answer) c.start.ensures.kept at))
       | in-None w ↦ subst (IsStart None c.args.event (record { kept = kept; woken = i.woken.items; heard = i.heard }) new) (λ t. given (sym w.result-is t) (sym w.deed-is t))
           (next_none kept c.start.new.self i.woken.items i.heard c.args.event same queued (sym c.start.ensures.variant ∙ ap is_some w.in-None.is) c.start.ensures.kept)
     ]))
