@@ -2,6 +2,7 @@
 #![tactic(auto)]
 
 mod elements;
+mod filling;
 mod laws;
 mod making;
 mod queue_group;

@@ -12,6 +12,7 @@ ghost use Rattle.queue_objects.specs.Leading.{lead, started_at, why_held, wakes}
 ghost use Rattle.queue_objects.specs.Plans.{IsOfPlan};
 
 use crate::elements::is_joined;
+use crate::filling::{fill_receive, fill_send};
 use bus_semantics::{Actor, BusPlan, Deed, Entry, Wish};
 use object_kinds::{Filled, Shown, find};
 use queued_ports::Queues;
@@ -86,14 +87,7 @@ impl QueueGroup {
         let code = self
             .queues
             .send(value, self.events.as_slice(), &mut self.woken);
-        *out = Entry {
-            actor: *who,
-            deed: Deed::Send {
-                elem,
-                value: *value,
-                code,
-            },
-        };
+        fill_send(who, elem, value, code, out);
         Filled::Done
     }
 
@@ -122,14 +116,7 @@ impl QueueGroup {
         match find(self.receivers.as_slice(), elem) {
             Some(receiver) => {
                 let received = self.queues.receive(receiver);
-                *out = Entry {
-                    actor: *who,
-                    deed: Deed::Receive {
-                        elem,
-                        code: received.code,
-                        value: received.value,
-                    },
-                };
+                fill_receive(who, elem, received.code, &received.value, out);
                 Filled::Done
             }
             None => Filled::NotYet(Shown::Unmatched),

@@ -1,4 +1,4 @@
-use Rattle.std.proofs.Common.{subst}
+use Rattle.std.proofs.Common.{◌≡◌, sym, subst}
 use Rattle.bus_semantics.specs.Common.{words_of, to_send}
 use Rattle.bus_semantics.specs.declared.entries.Deed.TheVariants as deed
 use Rattle.bus_semantics.specs.declared.entries.Entry.{Entry}
@@ -15,6 +15,8 @@ returns c = λ p.
     let sent = c.send-code in
     let new = state receivers events sent.new.self sent.new.woken.items in
     let entry : Entry = record { actor = c.args.who.now; deed = deed.Send c.args.elem c.args.value.now sent.result } in
-    subst (λ old. Leads p c.args.who.now (to_send c.args.elem (words_of c.args.value.now)) old new entry) c.self.view_is
+    let filled : entry ≡ c.fill_send.new.out = λ i. record { actor = sym c.fill_send.ensures.actor i; deed = sym c.fill_send.ensures.deed i } in
+    subst (Leads p c.args.who.now (to_send c.args.elem (words_of c.args.value.now)) c.args.self.now new) filled
+    (subst (λ old. Leads p c.args.who.now (to_send c.args.elem (words_of c.args.value.now)) old new entry) c.self.view_is
     (send_leads p c.args.who.now c.args.elem receivers events inside.woken.items inside.queues c.as_slice.result.now sent.new.woken.items sent.new.self sent.result c.args.value.now
-    c.self.invariant.1 c.as_slice.ensures.value sent.ensures.answer sent.ensures.kept sent.ensures.woken sent.ensures.only)
+    c.self.invariant.1 c.as_slice.ensures.value sent.ensures.answer sent.ensures.kept sent.ensures.woken sent.ensures.only))

@@ -25,5 +25,7 @@ returns-in-Some c = λ p joined.
     let got = c.receive-received in
     let there : place c.args.elem receivers ≡ Some c.in-Some.receiver = ap (place c.args.elem) (sym c.as_slice.ensures.value) ∙ sym c.find.ensures ∙ c.in-Some.is in
     let entry : Entry = record { actor = c.args.who.now; deed = deed.Receive c.args.elem got.result.code got.result.value } in
-    subst (λ old. Leads p c.args.who.now (to_receive c.args.elem) old (state receivers events got.new.self inside.woken.items) entry) c.self.view_is
-    (receive_leads p c.args.who.now c.args.elem receivers events inside.woken.items inside.queues c.in-Some.receiver got.new.self got.result.code got.result.value joined there got.ensures.answer got.ensures.kept)
+    let filled : entry ≡ c.fill_receive.new.out = λ i. record { actor = sym c.fill_receive.ensures.actor i; deed = sym c.fill_receive.ensures.deed i } in
+    subst (Leads p c.args.who.now (to_receive c.args.elem) c.args.self.now (state receivers events got.new.self inside.woken.items)) filled
+    (subst (λ old. Leads p c.args.who.now (to_receive c.args.elem) old (state receivers events got.new.self inside.woken.items) entry) c.self.view_is
+    (receive_leads p c.args.who.now c.args.elem receivers events inside.woken.items inside.queues c.in-Some.receiver got.new.self got.result.code got.result.value joined there got.ensures.answer got.ensures.kept))
