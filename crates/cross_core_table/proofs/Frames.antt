@@ -10,7 +10,7 @@ use Rattle.atomic_table.proofs.Lists.{at_set, set_here, set_else}
 use Rattle.bus_semantics.specs.declared.entries.Stamped.{Stamped}
 use Rattle.port_objects.specs.declared.object.Object.{Object}
 use Rattle.cross_core_table.specs.Common.{Opening, Held, Part, View, on_object, made_by, AreCounted, AreOf, plan_in, Table, word_of, IsHolding, Holds, Looked, IsSpent, AreJoined, IsSeated}
-use Rattle.cross_core_table.specs.Common.{IsAtHome, IsTaken, RoundRule}
+use Rattle.cross_core_table.specs.Common.{IsAtHome, IsTaken, RoundRule, place_of}
 use Rattle.cross_core_table.proofs.Lists.{at_within}
 use Rattle.cross_core_table.proofs.Parts.{before_set, once_kept, alone_kept}
 
@@ -109,7 +109,7 @@ stepped_by k s r id v w ws' hs' log' me live opening given joined goes wide long
       cores = subst (λ (n : ℕ). AreOf n log') (sym same) cores;
       small = r.small;
       room = room;
-      words = wide ∙ (r.words ∙ ap suc (sym long));
+      words = wide ∙ (r.words ∙ ap (λ (n : ℕ). place_of n) (sym long));
       objects = long ∙ r.objects;
       seats = subst (λ (n : ℕ). n ≤ 8) (sym same) r.seats;
       giver = λ u at. ⊎_elim

@@ -5,7 +5,7 @@ use Rattle.atomic_table.specs.Table.{step, Allows}
 use Rattle.bus_semantics.specs.declared.entries.Entry.{Entry}
 use Rattle.bus_semantics.specs.Objects.{touched_by}
 use Rattle.port_objects.specs.declared.object.Object.{Object}
-use Rattle.cross_core_table.specs.Common.{Opening, Held, plan_in, RoundRule, Sat, held_of, holding, failing, LockedAt, stamped_on, stamped_off, unlocked, looked}
+use Rattle.cross_core_table.specs.Common.{Opening, Held, plan_in, RoundRule, Sat, place_of, held_of, holding, failing, LockedAt, stamped_on, stamped_off, unlocked, looked}
 use Rattle.cross_core_table.specs.Places.{IsIdle, IsHolding, HasTried}
 use Rattle.cross_core_table.proofs.Keeping.{stamps_on, stamps_off, unlocks, looks}
 
@@ -29,13 +29,13 @@ has_tried k core o r m n idle l = record {
 one_slot : (m : Sat) (o : ℕ) (x : Object) → m.1 ≡ (o, x) ∷ [] → m ≡ (m.0, (o, x) ∷ [])
 one_slot m o x e = ap (λ (c : List (ℕ × Object)). (m.0, c)) e
 
-pub unlocks_at : (k : Opening) (n id : ℕ) (m : Sat) (i o : ℕ) → i ≡ suc o → o < n → IsHolding k m o
+pub unlocks_at : (k : Opening) (n id : ℕ) (m : Sat) (i o : ℕ) → i ≡ place_of o → o < n → IsHolding k m o
     → Allows (RoundRule k) n id m i (λ _. 0) (λ _. unlocked (step n i 0 0 none) m 0)
 unlocks_at k n id m i o word inside h =
     subst (λ (x : Sat). Allows (RoundRule k) n id x i (λ _. 0) (λ _. unlocked (step n i 0 0 none) x 0)) (sym (one_slot m o h.object h.slots))
     (unlocks k n id m.0 i o h.object [] (held_of o h.entries) word inside h.opening h.held refl h.kept h.planned)
 
-pub looks_at : (k : Opening) (n id : ℕ) (m : Sat) (i o : ℕ) → i ≡ suc o → o < n → IsHolding k m o
+pub looks_at : (k : Opening) (n id : ℕ) (m : Sat) (i o : ℕ) → i ≡ place_of o → o < n → IsHolding k m o
     → Allows (RoundRule k) n id m i (λ _. 0) (λ _. looked (step n i 0 0 none) m 0)
 looks_at k n id m i o word inside h =
     subst (λ (x : Sat). Allows (RoundRule k) n id x i (λ _. 0) (λ _. looked (step n i 0 0 none) x 0)) (sym (one_slot m o h.object h.slots))

@@ -16,7 +16,7 @@ use Rattle.bus_semantics.specs.Common.{touched_by, Logged}
 use Rattle.port_objects.specs.declared.object.Object.{Object}
 use Rattle.port_objects.specs.Objects.{kept_of, IsOfPlan}
 use Rattle.cross_core_table.specs.Common.{Opening, Held, View, noted_as, on_object, made_by, plan_in, kept_after, Table, word_of, IsHolding, Holds, Looked, IsSpent, AreJoined, IsAtHome}
-use Rattle.cross_core_table.specs.Common.{IsTaken, RoundRule, Sat, held_of, holding, failing, making, LockedAt, as_stamped, held_after, stamped_on, stamped_off, unlocked, looked}
+use Rattle.cross_core_table.specs.Common.{IsTaken, RoundRule, Sat, place_of, held_of, holding, failing, making, LockedAt, as_stamped, held_after, stamped_on, stamped_off, unlocked, looked}
 use Rattle.cross_core_table.specs.Rules.{Failed}
 use Rattle.cross_core_table.specs.Plays.{letting_go, having_looked, locked}
 use Rattle.cross_core_table.proofs.Lists.{at_within}
@@ -72,23 +72,23 @@ tries_on k s r i id m o n me live nonzero other =
 
 takes_it : (k : Opening) (s : Table) (r : RoundRule k s) (id : ℕ) (m : Sat) (o : ℕ) → get_elem? s.views id ≡ some m.0 → m.0.opening ≡ Some k
     → o < length s.homes → m.0.held ≡ None → word_of s.words o ≡ 0 → (t : IsAtHome k s.homes r.log o)
-    → RoundRule k (stepped s (suc o) (suc id) id m.1 (holding m.0 (held_of o (on_object (plan_in k) o r.log))) (takes o t.object))
+    → RoundRule k (stepped s (place_of o) (suc id) id m.1 (holding m.0 (held_of o (on_object (plan_in k) o r.log))) (takes o t.object))
 takes_it k s r id m o me live near none zero-word t =
     let v : View = m.0 in
     let l : List Stamped = on_object (plan_in k) o r.log in
     let w : View = holding v (held_of o l) in
     let q = r.seated id v me (alive k v live) in
-    let ws' : List ℕ = set s.words (suc o) (suc id) in
+    let ws' : List ℕ = set s.words (place_of o) (suc id) in
     let hs' : List (option.Option Object) = set s.homes o option.none in
     let vs' : List View = set s.views id w in
-    let inside : suc o < length s.words = omega (arith, r.words) in
-    let here : word_of ws' o ≡ suc id = get_or-set_same s.words (suc o) (suc id) 0 inside in
-    let there : (x : ℕ) → x ≢ o → word_of ws' x ≡ word_of s.words x = λ x ne. get_or-set_other s.words (suc o) (suc x) (suc id) 0 (λ e. ne (omega arith)) in
+    let inside : place_of o < length s.words = omega (arith, r.words) in
+    let here : word_of ws' o ≡ suc id = get_or-set_same s.words (place_of o) (suc id) 0 inside in
+    let there : (x : ℕ) → x ≢ o → word_of ws' x ≡ word_of s.words x = λ x ne. get_or-set_other s.words (place_of o) (place_of x) (suc id) 0 (λ e. ne (omega arith)) in
     let m' : (c : ℕ) (u : View) → get_elem? s.views c ≡ some u → IsSpent u → made_by c r.log ≡ made_by c r.log = λ c u at gone. refl in
     stepped_by k s r id v w ws' hs' r.log me (alive k v live) refl refl refl
     (record { made = λ j ne. refl; held = λ j x ne e. (there x (λ is. absurd (omega (arith, e, ap (λ (i : ℕ). word_of s.words i) is, zero-word))) ∙ e, refl); newer = λ x. ([], refl) })
-    (length-set s.words (suc o) (suc id)) (length-set s.homes o option.none) r.stamps
-    (get_or-set_other s.words (suc o) 0 (suc id) 0 (λ e. omega arith) ∙ r.count) r.cores r.room
+    (length-set s.words (place_of o) (suc id)) (length-set s.homes o option.none) r.stamps
+    (get_or-set_other s.words (place_of o) 0 (suc id) 0 (λ e. omega arith) ∙ r.count) r.cores r.room
     (record {
       opening = q.opening;
       core = q.core;
@@ -107,7 +107,7 @@ takes_it k s r id m o me live near none zero-word t =
     record { view = w; there = subst (λ (i : ℕ). get_elem? vs' i ≡ some w) (sym same) (set_here s.views id w (at_within s.views id v me)); held = held_of o l; holds = refl; object = sym is })
     (λ ne. taken_set s.views id v w x c me (r.taken x c near' (sym (there x ne) ∙ e)) (λ h has is. let no : Some h ≡ None = sym has ∙ none in absurd (cc no))))
 
-pub locks : (k : Opening) (n id : ℕ) (m : Sat) (i o new : ℕ) → i ≡ suc o → new ≡ suc m.0.core → o < n → m.0.opening ≡ Some k → m.0.held ≡ None
+pub locks : (k : Opening) (n id : ℕ) (m : Sat) (i o new : ℕ) → i ≡ place_of o → new ≡ suc m.0.core → o < n → m.0.opening ≡ Some k → m.0.held ≡ None
     → Allows (RoundRule k) n id m i (λ y. either (eqb y 0) new y) (locked (step n i 0 new option.none) m)
 locks k n id m i o new word mine inside live none s r wide me _ =
     let then = locked (step n i 0 new option.none) m in
@@ -124,7 +124,7 @@ locks k n id m i o new word mine inside live none s r wide me _ =
       takes o t.object,
       t.there,
       subst (λ (y : ℕ). RoundRule k (stepped s y new id m.1 w (takes o t.object))) (sym word)
-          (subst (λ (y : ℕ). RoundRule k (stepped s (suc o) y id m.1 w (takes o t.object))) (sym (mine ∙ ap suc core)) (takes_it k s r id m o me live near none was t)),
+          (subst (λ (y : ℕ). RoundRule k (stepped s (place_of o) y id m.1 w (takes o t.object))) (sym (mine ∙ ap suc core)) (takes_it k s r id m o me live near none was t)),
       λ x is.
           let same : o ≡ x = omega (arith, word, is) in
           let n : Sat = (w, (o, t.object) ∷ m.1) in
@@ -171,7 +171,7 @@ grown k s r id v w x word me live added stamp room opening core given made look 
     let log' : List Logged = logged id x ∷ r.log in
     let ws' : List ℕ = set s.words 0 word in
     let vs' : List View = set s.views id w in
-    let there : (o : ℕ) → word_of ws' o ≡ word_of s.words o = λ o. get_or-set_other s.words 0 (suc o) word 0 (λ e. omega arith) in
+    let there : (o : ℕ) → word_of ws' o ≡ word_of s.words o = λ o. get_or-set_other s.words 0 (place_of o) word 0 (λ e. omega arith) in
     let short = log_is_short (length s.views) k.room r.log r.cores r.room r.seats r.small in
     let count : get_or ws' 0 0 ≡ suc (length r.log) = omega (arith, get_or-set_same s.words 0 word 0 (omega (arith, r.words)), added, r.count, short) in
     let near : id < length s.views = at_within s.views id v me in
@@ -223,7 +223,7 @@ stamps_on k n id m o e event h live has is touching room s r wide me _ =
       grown k s r id v w x word me live refl refl room refl refl refl refl refl refl refl
           (λ j y ne u. off y (λ z. ne (omega (arith, u, ap (λ (i : ℕ). word_of s.words i) z, its))))
           (subst (λ (y : Option Held). Holds k (set s.words 0 word) (logged id x ∷ r.log) id (held_after y x)) (sym has)
-          (record { word = get_or-set_other s.words 0 (suc h.object) word 0 (λ z. omega arith) ∙ hq.word; entries = ap (λ (l : List Stamped). x ∷ l) hq.entries ∙ sym on }))
+          (record { word = get_or-set_other s.words 0 (place_of h.object) word 0 (λ z. omega arith) ∙ hq.word; entries = ap (λ (l : List Stamped). x ∷ l) hq.entries ∙ sym on }))
           (λ y near z. off y (λ u. absurd (omega (arith, z, ap (λ (i : ℕ). word_of s.words i) u, its))))
           (λ y g some-held there. (held_of g.object (x ∷ g.entries), ap (λ (z : Option Held). held_after z x) some-held, there)),
       refl,
@@ -248,7 +248,7 @@ stamps_off k n id m e live touching room s r wide me _ =
       tt,
       grown k s r id v w x word me live refl refl room refl refl refl refl refl refl refl
           (λ j y ne u. off y)
-          (holds_kept k s.words (set s.words 0 word) r.log (logged id x ∷ r.log) id (λ o u. (get_or-set_other s.words 0 (suc o) word 0 (λ z. omega arith) ∙ u, off o)) v.held q.held)
+          (holds_kept k s.words (set s.words 0 word) r.log (logged id x ∷ r.log) id (λ o u. (get_or-set_other s.words 0 (place_of o) word 0 (λ z. omega arith) ∙ u, off o)) v.held q.held)
           (λ y near z. off y)
           (λ y g some-held there. (g, some-held, there)),
       refl,
@@ -259,21 +259,21 @@ stamps_off k n id m e live touching room s r wide me _ =
 gives_back : (k : Opening) (s : Table) (r : RoundRule k s) (id : ℕ) (v w : View) (o : ℕ) (object : Object) (h : Held) → get_elem? s.views id ≡ some v → v.opening ≡ Some k
     → v.held ≡ Some h → h.object ≡ o → o < length s.homes → kept_after k o h.entries ≡ Some (kept_of object) → IsOfPlan (plan_in k) o object
     → w.opening ≡ v.opening → w.core ≡ v.core → w.given ≡ v.given → w.made ≡ v.made → w.held ≡ None → Looked k r.log w.look → w.tried ≡ v.tried → w.joined ≡ v.joined
-    → RoundRule k record { words = set s.words (suc o) 0; homes = set s.homes o (some object); views = set s.views id w }
+    → RoundRule k record { words = set s.words (place_of o) 0; homes = set s.homes o (some object); views = set s.views id w }
 gives_back k s r id v w o object h me live has is near kept planned opening core given made none look tried joined =
     let q = r.seated id v me (alive k v live) in
     let hq : IsHolding k s.words r.log id h = holds_word k s.words r.log id v.held h q.held has in
-    let ws' : List ℕ = set s.words (suc o) 0 in
+    let ws' : List ℕ = set s.words (place_of o) 0 in
     let hs' : List (option.Option Object) = set s.homes o (some object) in
     let vs' : List View = set s.views id w in
     let its : word_of s.words o ≡ suc id = subst (λ (y : ℕ). word_of s.words y ≡ suc id) is hq.word in
-    let here : word_of ws' o ≡ 0 = get_or-set_same s.words (suc o) 0 0 (omega (arith, r.words)) in
-    let there : (x : ℕ) → x ≢ o → word_of ws' x ≡ word_of s.words x = λ x ne. get_or-set_other s.words (suc o) (suc x) 0 0 (λ e. ne (omega arith)) in
+    let here : word_of ws' o ≡ 0 = get_or-set_same s.words (place_of o) 0 0 (omega (arith, r.words)) in
+    let there : (x : ℕ) → x ≢ o → word_of ws' x ≡ word_of s.words x = λ x ne. get_or-set_other s.words (place_of o) (place_of x) 0 0 (λ e. ne (omega arith)) in
     let m' : (c : ℕ) (u : View) → get_elem? s.views c ≡ some u → IsSpent u → made_by c r.log ≡ made_by c r.log = λ c u at gone. refl in
     stepped_by k s r id v w ws' hs' r.log me (alive k v live) opening given joined
     (record { made = λ j ne. refl; held = λ j x ne e. (there x (λ z. ne (omega (arith, e, ap (λ (i : ℕ). word_of s.words i) z, its))) ∙ e, refl); newer = λ x. ([], refl) })
-    (length-set s.words (suc o) 0) (length-set s.homes o (some object)) r.stamps
-    (get_or-set_other s.words (suc o) 0 0 0 (λ e. omega arith) ∙ r.count) r.cores r.room
+    (length-set s.words (place_of o) 0) (length-set s.homes o (some object)) r.stamps
+    (get_or-set_other s.words (place_of o) 0 0 0 (λ e. omega arith) ∙ r.count) r.cores r.room
     (record {
       opening = opening ∙ live;
       core = core ∙ q.core;
@@ -296,7 +296,7 @@ gives_back k s r id v w o object h me live has is near kept planned opening core
     (λ ne. taken_set s.views id v w x c me (r.taken x c near' (sym (there x ne) ∙ e))
     (λ g some-held at. let two : Some h ≡ Some g = sym has ∙ some-held in let same : h ≡ g = cc two in absurd (ne (sym at ∙ (ap (λ (y : Held). y.object) (sym same) ∙ is))))))
 
-pub unlocks : (k : Opening) (n id : ℕ) (v : View) (i o : ℕ) (object : Object) (more : List (ℕ × Object)) (h : Held) → i ≡ suc o → o < n → v.opening ≡ Some k
+pub unlocks : (k : Opening) (n id : ℕ) (v : View) (i o : ℕ) (object : Object) (more : List (ℕ × Object)) (h : Held) → i ≡ place_of o → o < n → v.opening ≡ Some k
     → v.held ≡ Some h → h.object ≡ o → kept_after k o h.entries ≡ Some (kept_of object) → IsOfPlan (plan_in k) o object
     → Allows (RoundRule k) n id (v, (o, object) ∷ more) i (λ _. 0) (λ _. unlocked (step n i 0 0 option.none) (v, (o, object) ∷ more) 0)
 unlocks k n id v i o object more h word inside live has is kept planned s r wide me _ = (
@@ -308,7 +308,7 @@ unlocks k n id v i o object more h word inside live has is kept planned s r wide
   refl,
 )
 
-pub looks : (k : Opening) (n id : ℕ) (v : View) (i o : ℕ) (object : Object) (more : List (ℕ × Object)) (h : Held) → i ≡ suc o → o < n → v.opening ≡ Some k
+pub looks : (k : Opening) (n id : ℕ) (v : View) (i o : ℕ) (object : Object) (more : List (ℕ × Object)) (h : Held) → i ≡ place_of o → o < n → v.opening ≡ Some k
     → v.held ≡ Some h → h.object ≡ o → kept_after k o h.entries ≡ Some (kept_of object) → IsOfPlan (plan_in k) o object
     → Allows (RoundRule k) n id (v, (o, object) ∷ more) i (λ _. 0) (λ _. looked (step n i 0 0 option.none) (v, (o, object) ∷ more) 0)
 looks k n id v i o object more h word inside live has is kept planned s r wide me _ =

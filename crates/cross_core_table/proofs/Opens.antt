@@ -7,7 +7,7 @@ use Rattle.bus_semantics.specs.declared.entries.Stamped.{Stamped}
 use Rattle.bus_semantics.specs.declared.plan.BusPlan.{BusPlan}
 use Rattle.port_objects.specs.declared.object.Object.{Object}
 use Rattle.port_objects.specs.Common.{ArePlans, HasObjects}
-use Rattle.cross_core_table.specs.Common.{Opening, CoreSeat, plan_in, Sat, giving, newcomer, first_view, IsSeatOf, view_of, IsFresh, AreRooms, AreGiven}
+use Rattle.cross_core_table.specs.Common.{Opening, CoreSeat, plan_in, place_of, Sat, giving, newcomer, first_view, IsSeatOf, view_of, IsFresh, AreRooms, AreGiven}
 use Rattle.cross_core_table.specs.declared.space.Space.{Space}
 use Rattle.cross_core_table.specs.Ready.{IsReady}
 use Rattle.cross_core_table.specs.Opened.{HasSpace}
@@ -23,11 +23,11 @@ zero_at zero i = refl
 zero_at (suc n) zero = refl
 zero_at (suc n) (suc i) = zero_at n i
 
-pub zeros_long : (ws : List ℕ) (n : ℕ) → ws ≡ zeros (suc n) → length ws ≡ suc n
-zeros_long ws n e = ap (λ (l : List ℕ). length l) e ∙ length-replicate {A = ℕ} (suc n) 0
+pub zeros_long : (ws : List ℕ) (n : ℕ) → ws ≡ zeros n → length ws ≡ n
+zeros_long ws n e = ap (λ (l : List ℕ). length l) e ∙ length-replicate {A = ℕ} n 0
 
-pub zeros_at : (ws : List ℕ) (n : ℕ) → ws ≡ zeros (suc n) → (i : ℕ) → get_or ws i 0 ≡ 0
-zeros_at ws n e i = ap (λ (l : List ℕ). get_or l i 0) e ∙ zero_at (suc n) i
+pub zeros_at : (ws : List ℕ) (n : ℕ) → ws ≡ zeros n → (i : ℕ) → get_or ws i 0 ≡ 0
+zeros_at ws n e i = ap (λ (l : List ℕ). get_or l i 0) e ∙ zero_at n i
 
 -- ---- rooms
 
@@ -103,14 +103,14 @@ given_next t k (suc n) (y ∷ rest) ys s a x some-core at all table me made core
 
 pub is_ready : (t : TableId) (key : Opening) (p : BusPlan) (objects : List Object) (cores room : ℕ) (space : Space) (rooms : Vec (Vec Stamped Global) Global)
     → HasObjects (plan_of p) → ArePlans (plan_of p) objects → 1 ≤ cores → HasSpace (length objects) cores room space
-    → t.words ≡ suc (length objects) → t.slots ≡ length objects → key.plan.value ≡ p → key.objects.value.items ≡ objects → key.room ≡ room
+    → t.words ≡ place_of (length objects) → t.slots ≡ length objects → key.plan.value ≡ p → key.objects.value.items ≡ objects → key.room ≡ room
     → rooms.items ≡ [] → vec_capacity rooms ≡ vec_capacity space.rooms → IsReady t key cores space.entries rooms space.returned
 is_ready t key p objects cores room space rooms sound planned some-core had words slots plan items limit none capacity =
     let counted = and_parts ((plan_of p).objects == clock (plan_of p) + 1) _ sound.counted in
     let many : (plan_of p).objects ≡ clock (plan_of p) + 1 = eqb-true (plan_of p).objects (clock (plan_of p) + 1) counted.0 in
     let all : t.slots ≡ (plan_of p).objects = omega (arith, slots, planned.count, many) in
     record {
-      words = words ∙ ap suc (sym slots);
+      words = words ∙ ap (λ (n : ℕ). place_of n) (sym slots);
       slots = subst (λ (b : BusPlan). t.slots ≡ (plan_of b).objects) (sym plan) all;
       groups = subst (λ (b : BusPlan). groups_fit (plan_of b) ≡ true) (sym plan) sound.groups;
       planned = subst (λ (l : List Object). ArePlans (plan_in key) l) (sym items) (subst (λ (b : BusPlan). ArePlans (plan_of b) objects) (sym plan) planned);

@@ -8,7 +8,7 @@ use Rattle.atomic_table.specs.Table.{opening, Splits, Joins}
 use Rattle.atomic_table.proofs.Lists.{at_set, set_here, set_else, at_longer, some_there}
 use Rattle.port_objects.specs.declared.object.Object.{Object}
 use Rattle.port_objects.specs.Objects.{ArePlans}
-use Rattle.cross_core_table.specs.Common.{Opening, Part, Held, View, made_by, AreOf, plan_in, Table, IsSpent, AreJoined, IsSeated, RoundRule, parts_of, times_joined, giving, newcomer}
+use Rattle.cross_core_table.specs.Common.{Opening, Part, Held, View, made_by, AreOf, plan_in, Table, IsSpent, AreJoined, IsSeated, RoundRule, place_of, parts_of, times_joined, giving, newcomer}
 use Rattle.cross_core_table.specs.Common.{part_of_view, joining, spent, first_view}
 use Rattle.cross_core_table.specs.Rules.{IsGone}
 use Rattle.cross_core_table.proofs.Lists.{at_within, at_end, at_somes, at_only}
@@ -197,7 +197,7 @@ joins k id v other u live some-given living none s r me apart them =
 -- ---- the opening
 
 pub opens : (k : Opening) (ws : List ℕ) (objects : List Object) → k.room < 2 ^ 32 → k.objects.value.items ≡ objects → ArePlans (plan_in k) objects
-    → length ws ≡ suc (length objects) → ((i : ℕ) → get_or ws i 0 ≡ 0) → RoundRule k (opening ws objects (first_view k))
+    → length ws ≡ place_of (length objects) → ((i : ℕ) → get_or ws i 0 ≡ 0) → RoundRule k (opening ws objects (first_view k))
 opens k ws objects small same planned long zeros =
     let v : View = first_view k in
     let size : length (map some objects) ≡ length objects = length-map objects some in
@@ -208,7 +208,7 @@ opens k ws objects small same planned long zeros =
       cores = tt;
       small = small;
       room = λ c. omega arith;
-      words = long ∙ ap suc (sym size);
+      words = long ∙ ap (λ (n : ℕ). place_of n) (sym size);
       objects = size ∙ ap (λ (xs : List Object). length xs) (sym same);
       seats = omega arith;
       giver = λ u at. ap (λ (x : View). x.given) (sym (at_only v u 0 at).1);
@@ -223,5 +223,5 @@ opens k ws objects small same planned long zeros =
           let t = some_there objects o (subst (λ (n : ℕ). o < n) size near) in
           let found : slice_get objects o ≡ Some t.0 = at_somes objects o t.0 t.1 in
           record { object = t.0; there = t.1; kept = kept_first k o t.0 (subst (λ (xs : List Object). slice_get xs o ≡ Some t.0) (sym same) found); planned = planned.each o t.0 found };
-      taken = λ o c near e. absurd (omega (arith, e, zeros (suc o)));
+      taken = λ o c near e. absurd (omega (arith, e, zeros (place_of o)));
     }

@@ -8,7 +8,7 @@ pub use Rattle.cross_core_table.specs.Ordering.{AreWithin, items_of, put_part, p
 pub use Rattle.cross_core_table.specs.Places.{Place}
 pub use Rattle.cross_core_table.specs.Plays.{LockedAt, Sat, as_stamped, failing, first_view, giving, held_after, held_of, holding, joining, looked, making, newcomer, part_of_view, spent}
 pub use Rattle.cross_core_table.specs.Plays.{stamped_off, stamped_on, unlocked}
-pub use Rattle.cross_core_table.specs.Rules.{AreJoined, Holds, IsAtHome, IsHolding, IsSeated, IsSpent, IsTaken, Looked, RoundRule, Table, parts_of, times_joined, word_of}
+pub use Rattle.cross_core_table.specs.Rules.{AreJoined, Holds, IsAtHome, IsHolding, IsSeated, IsSpent, IsTaken, Looked, RoundRule, Table, place_of, parts_of, times_joined, word_of}
 pub use Rattle.cross_core_table.specs.Seats.{AreSeatsOf, IsSeatOf, made_of, view_of}
 pub use Rattle.cross_core_table.specs.Taking.{HasTaken, TakenIn, round_at}
 pub use Rattle.cross_core_table.specs.declared.seats.CoreSeat.{CoreSeat}

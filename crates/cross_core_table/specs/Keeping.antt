@@ -11,17 +11,17 @@ use Rattle.cross_core_table.specs.declared.views.Opening.{Opening}
 use Rattle.cross_core_table.specs.declared.views.Held.{Held}
 use Rattle.cross_core_table.specs.declared.views.View.{View}
 use Rattle.cross_core_table.specs.Logs.{plan_in, kept_after}
-use Rattle.cross_core_table.specs.Rules.{RoundRule}
+use Rattle.cross_core_table.specs.Rules.{RoundRule, place_of}
 use Rattle.cross_core_table.specs.Plays.{Sat, locked, stamped_on, stamped_off, unlocked, looked, giving, newcomer, joining, spent, first_view}
 
 -- at the opening: all words 0, all objects in their slots, and one seat
 abbrev pub OpeningsKeep : Type 0
 OpeningsKeep = (k : Opening) (ws : List ℕ) (objects : List Object) → k.room < 2 ^ 32 → k.objects.value.items ≡ objects → ArePlans (plan_in k) objects →
-    length ws ≡ suc (length objects) → ((i : ℕ) → slice_index ws i ≡ 0) → RoundRule k (opening ws objects (first_view k))
+    length ws ≡ place_of (length objects) → ((i : ℕ) → slice_index ws i ≡ 0) → RoundRule k (opening ws objects (first_view k))
 
 -- a try for an object, by a seat that holds none: a compare and exchange of the object's word, from 0 to 1 plus the core
 abbrev pub TriesKeep : Type 0
-TriesKeep = (k : Opening) (slots id : ℕ) (m : Sat) (word o new : ℕ) → word ≡ suc o → new ≡ suc m.0.core → o < slots → m.0.opening ≡ Some k → m.0.held ≡ None →
+TriesKeep = (k : Opening) (slots id : ℕ) (m : Sat) (word o new : ℕ) → word ≡ place_of o → new ≡ suc m.0.core → o < slots → m.0.opening ≡ Some k → m.0.held ≡ None →
     Allows (RoundRule k) slots id m word (λ n. either (eqb n 0) new n) (locked (step slots word 0 new none) m)
 
 -- a stamp for an entry that touches the object in hand, while there is room: a fetch and add on word 0
@@ -38,7 +38,7 @@ StampsOffKeep = (k : Opening) (slots id : ℕ) (m : Sat) (e : Entry) → m.0.ope
 
 -- the object in hand is given back, if it keeps what the lead gives along the entries of the round that touch it: its word becomes 0
 abbrev pub GivesBack : (then : (slots word : ℕ) → Sat → Sat → Type 0) → Type 0
-GivesBack then = (k : Opening) (slots id : ℕ) (v : View) (word o : ℕ) (object : Object) (more : List (ℕ × Object)) (h : Held) → word ≡ suc o → o < slots →
+GivesBack then = (k : Opening) (slots id : ℕ) (v : View) (word o : ℕ) (object : Object) (more : List (ℕ × Object)) (h : Held) → word ≡ place_of o → o < slots →
     v.opening ≡ Some k → v.held ≡ Some h → h.object ≡ o → kept_after k o h.entries ≡ Some (kept_of object) → IsOfPlan (plan_in k) o object →
     Allows (RoundRule k) slots id (v, (o, object) ∷ more) word (λ n. 0) (λ n. then slots word (v, (o, object) ∷ more))
 

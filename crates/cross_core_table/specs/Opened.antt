@@ -1,5 +1,5 @@
 -- The memory of a round, how its seats are given, and what its opening gives.
-use Rattle.std.specs.Prelude.{◌≡◌, ◌≤◌, ◌*◌, ℕ, suc, List, [], length, replicate, slice_get, Some, Vec}
+use Rattle.std.specs.Prelude.{◌≡◌, ◌≤◌, ◌*◌, ℕ, List, [], length, replicate, slice_get, Some, Vec}
 use Rattle.bus_semantics.specs.Common.{vec_capacity, Global, Plan}
 use Rattle.bus_semantics.specs.declared.entries.Stamped.{Stamped}
 use Rattle.port_objects.specs.declared.object.Object.{Object}
@@ -9,6 +9,7 @@ use Rattle.cross_core_table.specs.declared.views.Opening.{Opening}
 use Rattle.cross_core_table.specs.declared.views.View.{View}
 use Rattle.cross_core_table.specs.declared.seats.CoreSeat.{CoreSeat}
 use Rattle.cross_core_table.specs.Logs.{plan_in}
+use Rattle.cross_core_table.specs.Rules.{place_of}
 use Rattle.cross_core_table.specs.OpenRounds.{OpenRound}
 use Rattle.cross_core_table.specs.Seats.{IsSeatOf, AreSeatsOf, view_of}
 
@@ -35,7 +36,7 @@ pub record AreRooms (cores room : ℕ) (rooms : List (Vec Stamped Global)) : Typ
   pub each : (i : ℕ) (v : Vec Stamped Global) → slice_get rooms i ≡ Some v → (v.items ≡ []) × (room ≤ vec_capacity v)
 
 pub record HasSpace (objects cores room : ℕ) (s : Space) : Type 0 where
-  pub words : s.words.items ≡ replicate (suc objects) 0
+  pub words : s.words.items ≡ replicate (place_of objects) 0
   pub rooms : AreRooms cores room s.rooms.items
   pub for_parts : cores ≤ vec_capacity s.rooms
   pub seats : (s.seats.items ≡ []) × (cores ≤ vec_capacity s.seats)

@@ -10,6 +10,7 @@ use Rattle.cross_core_table.specs.declared.views.Held.{Held}
 use Rattle.cross_core_table.specs.declared.views.Part.{Part}
 use Rattle.cross_core_table.specs.declared.views.View.{View}
 use Rattle.cross_core_table.specs.Logs.{plan_in, kept_after}
+use Rattle.cross_core_table.specs.Rules.{place_of}
 
 -- a seat: what it knows, and the slot that is out with it
 abbrev pub Sat : Type 0
@@ -80,7 +81,7 @@ pub record LockedAt (m : Sat) (o r : ℕ) (n : Sat) : Type 0 where
   pub missed : r ≢ 0 → Missed m o r n
 
 abbrev pub locked : Play
-locked st m r n = (o : ℕ) → st.word ≡ suc o → LockedAt m o r n
+locked st m r n = (o : ℕ) → st.word ≡ place_of o → LockedAt m o r n
 
 -- an entry as it was stamped
 abbrev pub as_stamped : (stamp : ℕ) → Entry → (event : Option ℕ) → Stamped

@@ -1,6 +1,6 @@
 -- The rule of a round: what holds between any two atomic steps of any number of seats, on any threads. Word 0 counts stamps, and each object has a word
 -- (0, or 1 plus the number of the core that holds it) and a slot. The table, its words and its seats are this project's own.
-use Rattle.std.specs.Prelude.{◌≡◌, ◌≢◌, ◌<◌, ◌≤◌, ◌^◌, ◌==◌, ℕ, suc, List, [], ◌∷◌, ◌++◌, length, filter, slice_index, true, false, is_some, if◌then◌else◌, Option, Some, None}
+use Rattle.std.specs.Prelude.{◌≡◌, ◌≢◌, ◌<◌, ◌≤◌, ◌^◌, ◌+◌, ◌*◌, ◌==◌, min, ℕ, suc, List, [], ◌∷◌, ◌++◌, length, filter, slice_index, true, false, is_some, if◌then◌else◌, Option, Some, None}
 use mathlib.Core.Option as option
 use lib.ListN.{get_elem?}
 use Rattle.atomic_table.specs.Table.{State}
@@ -19,9 +19,14 @@ use Rattle.cross_core_table.specs.Logs.{on_object, made_by, AreCounted, AreOf, p
 abbrev pub Table : Type 0
 Table = State Object View
 
+-- where the word of an object stands. Each of the first 1,024 has a line of 8 words to itself, as the word of the stamps has; those of all others stand
+-- side by side behind these lines. By the number of objects it is the number of words.
+abbrev pub place_of : (object : ℕ) → ℕ
+place_of o = o + 7 * min o 1024 + 8
+
 -- the word of an object
 abbrev pub word_of : List ℕ → (object : ℕ) → ℕ
-word_of ws o = slice_index ws (suc o)
+word_of ws o = slice_index ws (place_of o)
 
 -- ---- what a seat knows
 
@@ -105,7 +110,7 @@ pub record RoundRule (k : Opening) (s : Table) : Type 0 where
   pub small : k.room < 2 ^ 32
   pub room : (c : ℕ) → length (made_by c log) ≤ k.room
   -- there is a word for each object, and a seat for each core
-  pub words : length s.words ≡ suc (length s.homes)
+  pub words : length s.words ≡ place_of (length s.homes)
   pub objects : length s.homes ≡ length k.objects.value.items
   pub seats : length s.views ≤ 8
   -- the first seat gives the others

@@ -1,12 +1,13 @@
 //! A wish on an object that cores share.
 
-ghost use Rattle.std.specs.Prelude.{◌≡◌, ◌<◌, ◌++◌, suc, List, [], ◌∷◌, length, true, vec_len, Some, None};
+ghost use Rattle.std.specs.Prelude.{◌≡◌, ◌<◌, ◌++◌, List, [], ◌∷◌, length, true, vec_len, Some, None};
 ghost use Rattle.bus_semantics.specs.declared.entries.Stamped.{Stamped};
 ghost use Rattle.bus_semantics.specs.Common.{vec_capacity, plan_of, groups_fit, wanted_of, event_of, touched_by};
 ghost use Rattle.port_objects.specs.declared.object.Object.{Object};
 ghost use Rattle.port_objects.specs.Common.{IsOfPlan};
 ghost use Rattle.port_objects.specs.Benches.{IsAsked, stamped_alone, benched, IsWritten};
 ghost use Rattle.cross_core_table.specs.Logs.{plan_in};
+ghost use Rattle.cross_core_table.specs.Rules.{place_of};
 ghost use Rattle.cross_core_table.specs.Plays.{making, letting_go, as_stamped};
 ghost use Rattle.cross_core_table.specs.Places.{KnowsAfter, IsSamePlace, IsToKeep, HasFilled};
 ghost use Rattle.cross_core_table.specs.Seats.{IsSeatAt, view_of};
@@ -28,7 +29,7 @@ pub(crate) fn act_at(
     requires seat { IsSeatAt top.now.table_id top.now.key seat.old.core seat.old }
     requires plan { plan_of p.now ≡ plan_in top.now.key }
     requires groups { groups_fit (plan_of p.now) ≡ true }
-    requires words { top.now.table_id.words ≡ suc top.now.table_id.slots }
+    requires words { top.now.table_id.words ≡ place_of top.now.table_id.slots }
     requires within { object < top.now.table_id.slots }
     requires asked { IsAsked (plan_of p.now) object who.now (wanted_of wish.now) }
     requires room { length (view_of seat.old).made < top.now.key.room }
@@ -93,7 +94,7 @@ fn act_on(
 /// Stamps the entry that was made on the object in hand and lies behind the others, and gives the object back. It answers the stamp.
 fn keep_entry(top: &Top, seat: &mut CoreSeat, object: u32) -> u64
     requires table { seat.old.place.table_id ≡ top.now.table_id }
-    requires words { top.now.table_id.words ≡ suc top.now.table_id.slots }
+    requires words { top.now.table_id.words ≡ place_of top.now.table_id.slots }
     requires within { object < top.now.table_id.slots }
     requires opening { (view_of seat.old).opening ≡ Some top.now.key }
     requires keeps { (before : List Stamped) × (last : Stamped) × (seat.old.made.items ≡ before ++ last ∷ [])
@@ -128,7 +129,7 @@ fn event_of(wish: &Wish) -> Option<u32>
 /// Stamps an entry that touches no object, and keeps it.
 pub(crate) fn stamp_at(top: &Top, seat: &mut CoreSeat, entry: &Entry) -> u64
     requires seat { IsSeatAt top.now.table_id top.now.key seat.old.core seat.old }
-    requires words { top.now.table_id.words ≡ suc top.now.table_id.slots }
+    requires words { top.now.table_id.words ≡ place_of top.now.table_id.slots }
     requires alone { touched_by (plan_in top.now.key) (record { entry = entry.now; event = None }) ≡ None }
     requires room { length (view_of seat.old).made < top.now.key.room }
     ensures seat { IsSeatAt top.now.table_id top.now.key seat.old.core seat.new }

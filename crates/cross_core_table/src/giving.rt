@@ -9,7 +9,7 @@ use crate::plays::Give;
 use crate::seats::CoreSeat;
 use crate::space::Space;
 use crate::spare::Spare;
-use crate::steps::{Place, Top};
+use crate::steps::{Place, Top, place_of};
 use bus_semantics::Stamped;
 use port_objects::{Memory, Object};
 use std::alloc::Global;
@@ -30,7 +30,7 @@ pub(crate) fn take_space(
         entries: list,
         rooms: lists,
     } = spare;
-    let words = Vec::from_elem(alloc, 0u64, objects + 1)?;
+    let words = Vec::from_elem(alloc, 0u64, place_of(objects))?;
     let seats = Vec::with_capacity(alloc, cores as usize)?;
     let entries = emptied(list, cores as usize * room as usize)?;
     let returned = Vec::with_capacity(alloc, objects)?;

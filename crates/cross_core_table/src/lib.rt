@@ -29,6 +29,10 @@
 //! of the seat with room for all that its core may make, which `open` takes. So no call of a seat takes memory, and the close
 //! writes each entry at its stamp.
 //!
+//! **Why do words begin lines of the cache?** Cores at several objects would write to one line in turn, twice for each entry, and only the
+//! stamps have to be shared. Only 1,024 objects have a line to themselves: all words are cleared and copied in each round, and where there are
+//! very many objects, those at which cores are at the same time seldom share one.
+//!
 //! **What comes of a try that finds an object held?** `Contended`, at once, with the word that was found. The seat does not try
 //! again: when to come back is for the core's next turn.
 #![tactic(auto)]

@@ -1,8 +1,9 @@
 //! A round: cores act on the objects of a bus at the same time.
 
-ghost use Rattle.std.specs.Prelude.{◌≡◌, suc, true};
+ghost use Rattle.std.specs.Prelude.{◌≡◌, true};
 ghost use Rattle.bus_semantics.specs.SoundPlan.{groups_fit};
 ghost use Rattle.cross_core_table.specs.Logs.{plan_in};
+ghost use Rattle.cross_core_table.specs.Rules.{place_of};
 
 use crate::plays::Ruled;
 use crate::steps::Top;
@@ -44,11 +45,11 @@ impl Model for Round {
 }
 
 impl Round {
-    /// The table as its seats see it: a word for each object and one more.
+    /// The table as its seats see it: a word for each object and one for the stamps.
     pub(crate) fn top(&self) -> &Top
         ensures table { result.now.table_id ≡ self.now.table }
         ensures opening { result.now.key ≡ self.now.opening }
-        ensures words { result.now.table_id.words ≡ suc result.now.table_id.slots }
+        ensures words { result.now.table_id.words ≡ place_of result.now.table_id.slots }
         ensures slots { result.now.table_id.slots ≡ (plan_in result.now.key).objects }
         ensures groups { groups_fit (plan_in result.now.key) ≡ true }
     {

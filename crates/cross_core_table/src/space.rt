@@ -7,7 +7,7 @@ use port_objects::Object;
 /// All the memory of a round but for its table.
 #[derive(Drop)]
 pub(crate) struct Space {
-    /// A word 0 for each object and one more.
+    /// Words 0: one for each object, and one for the stamps.
     pub(crate) words: Vec<u64>,
     /// Room for the entries of each core.
     pub(crate) rooms: Vec<Vec<Stamped>>,

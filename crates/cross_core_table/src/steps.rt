@@ -1,9 +1,10 @@
 //! The atomic steps of a seat.
 
-ghost use Rattle.std.specs.Prelude.{◌≡◌, ◌<◌, suc, [], length, Some, None};
+ghost use Rattle.std.specs.Prelude.{◌≡◌, ◌<◌, ◌^◌, [], length, Some, None};
 ghost use Rattle.bus_semantics.specs.Common.{touched_by};
 ghost use Rattle.cross_core_table.specs.declared.views.Held.{Held};
 ghost use Rattle.cross_core_table.specs.Logs.{plan_in};
+ghost use Rattle.cross_core_table.specs.Rules.{place_of};
 ghost use Rattle.cross_core_table.specs.Plays.{as_stamped, held_after, making, letting_go, having_looked};
 ghost use Rattle.cross_core_table.specs.Places.{IsSamePlace, IsIdle, IsHolding, HasTried};
 
@@ -20,16 +21,31 @@ pub(crate) type Top = Shared<Object, View, Opening, Ruled>;
 /// A seat of it.
 pub(crate) type Place = Seat<Object, View>;
 
+/// How many words a line of the cache has.
+const LINE: usize = 8;
+
+/// The words of so many objects have a line each.
+const MOST_LINES: usize = 1_024;
+
+/// Where the word of the object of this number stands. Each of the first 1,024 has a line of the cache to itself, as the word of the stamps has,
+/// so that cores at several objects do not slow each other. By the number of objects it is the number of words.
+pub(crate) fn place_of(object: usize) -> usize
+    requires { object < 2 ^ 32 }
+    ensures { result ≡ place_of object }
+{
+    object + (LINE - 1) * object.min(MOST_LINES) + LINE
+}
+
 /// A single try for an object: the word that was found, which is 0 exactly if the seat then holds the object.
 pub(crate) fn try_lock(top: &Top, place: &mut Place, core: u32, object: u32) -> u64
     requires table { place.old.table_id ≡ top.now.table_id }
-    requires words { top.now.table_id.words ≡ suc top.now.table_id.slots }
+    requires words { top.now.table_id.words ≡ place_of top.now.table_id.slots }
     requires idle { IsIdle top.now.key core place.old.me }
     requires within { object < top.now.table_id.slots }
     ensures same { IsSamePlace place.old place.new }
     ensures tried { HasTried top.now.key core object result place.old.me place.new.me }
 {
-    top.compare_exchange::<Lock>(place, object as usize + 1, 0, core as u64 + 1)
+    top.compare_exchange::<Lock>(place, place_of(object as usize), 0, core as u64 + 1)
 }
 
 /// Stamps an entry of the object that the seat holds, and answers its stamp.
@@ -105,23 +121,23 @@ fn stamp_off_as<N: Names>(top: &Top, place: &mut Place, entry: &Entry) -> u64
 /// Gives back the object that the seat holds, after an entry.
 pub(crate) fn unlock(top: &Top, place: &mut Place, object: u32)
     requires table { place.old.table_id ≡ top.now.table_id }
-    requires words { top.now.table_id.words ≡ suc top.now.table_id.slots }
+    requires words { top.now.table_id.words ≡ place_of top.now.table_id.slots }
     requires within { object < top.now.table_id.slots }
     requires holds { IsHolding top.now.key place.old.me object }
     ensures same { IsSamePlace place.old place.new }
     ensures idle { place.new.me ≡ (letting_go place.old.me.0, []) }
 {
-    top.store::<Unlock>(place, object as usize + 1, 0);
+    top.store::<Unlock>(place, place_of(object as usize), 0);
 }
 
 /// Gives back the object that the seat holds, without an entry: it has looked.
 pub(crate) fn look(top: &Top, place: &mut Place, object: u32)
     requires table { place.old.table_id ≡ top.now.table_id }
-    requires words { top.now.table_id.words ≡ suc top.now.table_id.slots }
+    requires words { top.now.table_id.words ≡ place_of top.now.table_id.slots }
     requires within { object < top.now.table_id.slots }
     requires holds { IsHolding top.now.key place.old.me object }
     ensures same { IsSamePlace place.old place.new }
     ensures idle { place.new.me ≡ (having_looked place.old.me.0, []) }
 {
-    top.store::<Look>(place, object as usize + 1, 0);
+    top.store::<Look>(place, place_of(object as usize), 0);
 }
