@@ -1,9 +1,9 @@
 -- Links of the same ports.
-use Rattle.std.proofs.Common.{◌≡◌, List, [], Bool, false, ◌↔◌, sym, subst}
+use Rattle.std.proofs.Common.{◌≡◌, List, [], ◌∷◌, Bool, false, inl, ⊎_elim, ◌↔◌, refl, sym, subst}
 use Rattle.description_types.specs.declared.description.Description.{Description}
 use Rattle.composition_tables.specs.declared.links.Link.{Link}
 use Rattle.composition_tables.specs.declared.tree.PortEnd.{PortEnd}
-use Rattle.end_crossing.specs.PortLinks.{IsCrossLink}
+use Rattle.end_crossing.specs.PortLinks.{IsCrossLink, IsPairLink}
 use Rattle.description_types.specs.Growing.{Grown}
 use Rattle.description_types.specs.Members.{Among}
 use Rattle.composition_tables.proofs.Growth.{grown_same, grown_none}
@@ -26,3 +26,13 @@ no_providers d ps qs list none = grown_none (IsCrossLink d ps qs) list (λ x a. 
 
 pub no_requesters : (d : Description) (ps qs : List PortEnd) (list : List Link) → [] ≡ qs → Grown (IsCrossLink d ps qs) list list false
 no_requesters d ps qs list none = grown_none (IsCrossLink d ps qs) list (λ x a. subst (Among a.2.0) (sym none) a.2.1)
+
+-- the links of one provided port and one required one
+only : (x y : PortEnd) → Among x (y ∷ []) → x ≡ y
+only x y h = ⊎_elim (λ is. is) (λ none. absurd none) h
+
+pub lone_cross : (d : Description) (ps qs : List PortEnd) (p q : PortEnd) (before after : List Link) (is_full : Bool) → ps ≡ p ∷ [] → qs ≡ q ∷ [] → Grown (IsPairLink d p q) before after is_full → Grown (IsCrossLink d ps qs) before after is_full
+lone_cross d ps qs p q before after is_full first second g = cross_at d (p ∷ []) (q ∷ []) ps qs before after is_full (sym first) (sym second)
+    (grown_same (IsPairLink d p q) (IsCrossLink d (p ∷ []) (q ∷ [])) before after is_full
+    (λ x h. (p, inl refl, (q, inl refl, h)))
+    (λ x h. subst (λ r. IsPairLink d p r x) (only h.2.0 q h.2.1) (subst (λ r. IsPairLink d r h.2.0 x) (only h.0 p h.1) h.2.2)) g)

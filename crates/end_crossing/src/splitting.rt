@@ -1,6 +1,6 @@
 //! Links of the ports below two gates, part by part.
 
-ghost use Rattle.std.specs.Prelude.{◌≡◌, ◌≤◌, IfOk, OnOk};
+ghost use Rattle.std.specs.Prelude.{◌≡◌, ◌≤◌, [], ◌∷◌, IfOk, IfSome, OnOk};
 ghost use Rattle.composition_tables.specs.Ends.{ends, inner_ends};
 ghost use Rattle.end_search.specs.Gates.{gate_ends, IsShallow};
 ghost use Rattle.description_types.specs.Growing.{Grown};
@@ -9,14 +9,16 @@ ghost use Rattle.end_crossing.specs.Crossings.{IsAdding};
 ghost use Rattle.end_crossing.specs.Parts.{part_ends};
 ghost use Rattle.composition_tables.specs.Trees.{IsTree};
 
+use crate::cross::add_pair;
 use crate::crossing::add_sides;
 use crate::crossings::Crossing;
 use crate::matched::Matched;
 use crate::parts::{Parts, parts_of};
+use composition_tables::connectors::interface_of;
 use composition_tables::counts::DEPTH_LIMIT;
 use composition_tables::gathering::Links;
-use composition_tables::tree::Tree;
-use description_types::InnerPort;
+use composition_tables::tree::{Owner, PortEnd, Tree};
+use description_types::{Description, InnerPort, PrototypeType};
 use end_search::gates::{Gate, inner_gate, narrowed};
 use rte_text::Memory;
 use std::alloc::Global;
@@ -216,8 +218,40 @@ fn cross_once(
     Ok(false)
 }
 
+/// The port at a gate that is a port of an instance or of the root.
+fn lone_end(d: &Description, gate: Gate) -> Option<PortEnd>
+    ensures { IfSome result (λ end. gate_ends d.now gate ≡ end ∷ []) }
+{
+    match gate {
+        Gate::Outer(port, interface) => Some(PortEnd {
+            owner: Owner::Environment,
+            port,
+            interface,
+        }),
+        Gate::Component(component, first, port) => {
+            let interface = interface_of(d, PrototypeType::Component(component), port)?;
+            Some(PortEnd {
+                owner: Owner::Instance(first),
+                port,
+                interface,
+            })
+        }
+        Gate::Composition(_, _, _, _) => None,
+    }
+}
+
+/// The ports at two gates, if each is a port of an instance or of the root.
+fn lone_ends(d: &Description, provided: Gate, required: Gate) -> Option<(PortEnd, PortEnd)>
+    ensures { IfSome result (λ ends. (gate_ends d.now provided ≡ ends.0 ∷ []) × (gate_ends d.now required ≡ ends.1 ∷ [])) }
+{
+    let first = lone_end(d, provided)?;
+    let second = lone_end(d, required)?;
+    Some((first, second))
+}
+
 /// Adds the links of the ports below two gates, unless they were added before. The answer is whether there are more links
 /// now than the limit; then the rest may be missing.
+#[tactic(auto, using(crate::proofs::SamePorts::lone_cross))]
 pub fn cross_gates(
     alloc: Global,
     tree: &Tree,
@@ -233,5 +267,8 @@ pub fn cross_gates(
     ensures matched { OnOk result (IsAdding tree.now.d.now matched.new links.new.list.items) }
     ensures grown { IfOk result (λ is_full. Grown (IsCrossLink tree.now.d.now (gate_ends tree.now.d.now provided) (gate_ends tree.now.d.now required)) links.old.list.items links.new.list.items is_full) }
 {
-    cross_once(alloc, tree, SPLITS, provided, required, matched, links)
+    match lone_ends(tree.d, provided, required) {
+        Some((first, second)) => add_pair(alloc, tree.d, first, second, matched, links),
+        None => cross_once(alloc, tree, SPLITS, provided, required, matched, links),
+    }
 }
