@@ -1,28 +1,45 @@
 -- Partners of ends, and what a list says of a key, as they are looked up.
-use Rattle.std.proofs.Common.{◌≡◌, ℕ, zero, suc, ◌+◌, List, [], ◌∷◌, map, Bool, true, false, cond, ◌&&◌, nat_eq, Option, Some, None, refl, sym, ap, ◌∙◌, add-one}
-use Rattle.std.specs.List.{find, position_from, slice_get}
+use Rattle.std.proofs.Common.{◌≡◌, ℕ, zero, suc, ◌+◌, List, [], ◌∷◌, ◌++◌, map, Bool, true, false, true≢false, cond, ◌&&◌, nat_eq, Option, Some, None, refl, sym, ap, ◌∙◌, add-one}
+use Rattle.std.specs.List.{find, flat_map, position_from, slice_get}
 use Rattle.std.specs.Map.{lookup}
 use Rattle.std.specs.Option.{option_and_then, option_map}
-use Rattle.plan_definitions.specs.Common.{ComSpec, End, Join, provider_of, same_end, Port}
+use Rattle.plan_definitions.specs.Common.{ComSpec, Description, End, Flat, Join, provider_of, same_end, Port}
 use Rattle.plan_numbers.specs.ComSpecs.{items_of_ports, named_items}
-use Rattle.plan_numbers.specs.Ends.{EndKey, key_of, required_entry, same_end_key}
-use Rattle.plan_definitions.proofs.Keys.{nat_eq_sym, option_eq_sym}
+use Rattle.plan_numbers.specs.Ends.{EndKey, is_served, key_of, same_end_key, served_entry}
+use Rattle.plan_definitions.proofs.Keys.{nat_eq_sym, option_eq_sym, same_end_is as are_one}
 
 same_end_is : (a b : End) → same_end a b ≡ same_end_key (key_of b) (key_of a)
 same_end_is a b = λ j. (option_eq_sym a.instance b.instance j && nat_eq_sym a.port b.port j) && nat_eq_sym a.element b.element j
 
-provider_by : (e : End) (joins : List Join) → lookup (same_end_key (key_of e)) (map required_entry joins) ≡ option_map (λ j. j.provided) (find (λ j. same_end j.required e) joins)
-provider_by e [] = refl
-provider_by e (j ∷ joins) = ap (λ rest. cond (same_end_key (key_of e) (key_of j.required)) (Some j.provided) rest) (provider_by e joins)
-    ∙ ap (λ b. cond b (Some j.provided) (option_map (λ j. j.provided) (find (λ j. same_end j.required e) joins))) (sym (same_end_is j.required e))
-    ∙ by (same_end j.required e)
+-- an end that is served is none that is not
+served_differs : (d : Description) (f : Flat) (a e : End) → is_served d f a ≡ false → is_served d f e ≡ true → same_end a e ≡ false
+served_differs d f a e unserved served = by (same_end a e) refl
   where
-    by : (b : Bool) → cond b (Some j.provided) (option_map (λ j. j.provided) (find (λ j. same_end j.required e) joins)) ≡ option_map (λ j. j.provided) (cond b (Some j) (find (λ j. same_end j.required e) joins))
-    by true = refl
-    by false = refl
+    by : (same : Bool) → same_end a e ≡ same → same ≡ false
+    by true same = absurd (true≢false (sym served ∙ ap (is_served d f) (sym (are_one a e same)) ∙ unserved))
+    by false same = refl
 
-pub provider_found : (joins : List Join) (entries : List (EndKey × End)) (e : End) → entries ≡ map required_entry joins → lookup (same_end_key (key_of e)) entries ≡ provider_of joins e
-provider_found joins entries e are = ap (lookup (same_end_key (key_of e))) are ∙ provider_by e joins
+module _ (d : Description) (f : Flat) (e : End) (served : is_served d f e ≡ true) where
+  provider_by : (joins : List Join) → lookup (same_end_key (key_of e)) (flat_map (served_entry d f) joins) ≡ option_map (λ j. j.provided) (find (λ j. same_end j.required e) joins)
+  provider_by [] = refl
+  provider_by (j ∷ joins) = by (is_served d f j.required) refl (provider_by joins)
+    where
+      after : Option End
+      after = option_map (λ j. j.provided) (find (λ j. same_end j.required e) joins)
+
+      found : (b : Bool) → cond b (Some j.provided) after ≡ option_map (λ j. j.provided) (cond b (Some j) (find (λ j. same_end j.required e) joins))
+      found true = refl
+      found false = refl
+
+      by : (b : Bool) → is_served d f j.required ≡ b → lookup (same_end_key (key_of e)) (flat_map (served_entry d f) joins) ≡ after
+          → lookup (same_end_key (key_of e)) (cond b ((key_of j.required, j.provided) ∷ []) [] ++ flat_map (served_entry d f) joins) ≡ option_map (λ j. j.provided) (find (λ j. same_end j.required e) (j ∷ joins))
+      by true is rest = ap (λ found. cond (same_end_key (key_of e) (key_of j.required)) (Some j.provided) found) rest
+          ∙ ap (λ b. cond b (Some j.provided) after) (sym (same_end_is j.required e)) ∙ found (same_end j.required e)
+      by false is rest = rest ∙ ap (λ b. option_map (λ j. j.provided) (cond b (Some j) (find (λ j. same_end j.required e) joins))) (sym (served_differs d f j.required e is served))
+
+pub provider_found : (d : Description) (f : Flat) (joins : List Join) (entries : List (EndKey × End)) (e : End) → entries ≡ flat_map (served_entry d f) joins → is_served d f e ≡ true
+    → lookup (same_end_key (key_of e)) entries ≡ provider_of joins e
+provider_found d f joins entries e are served = ap (lookup (same_end_key (key_of e))) are ∙ provider_by d f e served joins
 
 -- what is found by its key
 pub position_next : {X : Type 0} (test : X → Bool) (n : ℕ) (xs : List X) → position_from test (n + 1) xs ≡ option_map (λ p. p + 1) (position_from test n xs)

@@ -88,7 +88,7 @@ impl Source<'_> {
         requires { HasFewThings d.now f.now }
         ensures { IfOk result (λ source. (source.d.now ≡ d.now) × (source.f.now ≡ f.now)) }
     {
-        let joined = Joined::of(alloc, f.joins.items())?;
+        let joined = Joined::of(alloc, d, f)?;
         match lists_of(alloc, d, f, &joined) {
             Ok(lists) => Source::with_lists(alloc, d, f, joined, lists),
             Err(memory) => {

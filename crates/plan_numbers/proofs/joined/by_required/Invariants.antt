@@ -1,6 +1,7 @@
-use Rattle.std.proofs.Common.{◌≡◌, map, take}
-use Rattle.plan_numbers.specs.Ends.{required_entry}
+use Rattle.std.proofs.Common.{◌≡◌, take}
+use Rattle.std.specs.List.{flat_map}
+use Rattle.plan_numbers.specs.Ends.{served_entry}
 use Rattle.plan_numbers.proofs.joined.by_required.Given as goal
 
 abbrev pub invariant-loop-join : goal.invariant-loop-join
-invariant-loop-join l = l.entries.items ≡ map required_entry (take l.join-index l.joins)
+invariant-loop-join l = l.entries.items ≡ flat_map (served_entry l.d l.f) (take l.join-index l.f.joins)
