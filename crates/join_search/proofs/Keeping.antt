@@ -1,15 +1,18 @@
 -- What is kept of partners.
 use Rattle.std.proofs.Common.{◌≡◌, ℕ, zero, suc, ◌+◌, ◌<◌, ◌≤◌, List, [], ◌∷◌, length, get_or, drop, map, filter, Bool, true, false, cond, ◌&&◌, ◌||◌, not, Option, Some, None, refl, sym, ap}
-use Rattle.std.proofs.Common.{◌∙◌, arith, add-one}
+use Rattle.std.proofs.Common.{◌++◌, take, ◌∙◌, arith, add-one, true≢false}
+use Rattle.std.proofs.lemmas.List.{append-nil, take_more}
 use Rattle.std.specs.Prelude.{is_none as is_absent}
-use Rattle.std.proofs.lemmas.Bool.{and_parts}
-use Rattle.std.specs.List.{list_all, list_any}
-use Rattle.std.specs.Map.{lookup, values_of}
-use Rattle.std.specs.Option.{option_map_or, unwrap_or}
-use Rattle.plan_definitions.specs.Common.{End, Join, are_several}
+use Rattle.std.specs.List.{list_any}
+use Rattle.std.specs.Option.{unwrap_or}
+use Rattle.indexmap.specs.IndexMap.{get}
+use Rattle.indexmap.specs.IndexSet.{contains}
+use Rattle.plan_definitions.specs.Common.{End, Join, are_several, providers, requirers}
+use Rattle.join_search.specs.declared.partners.Kept.{Kept}
+use Rattle.join_search.specs.declared.partners.Kept.TheVariants as kept
 use Rattle.join_search.specs.declared.partners.Partners.{Partners}
-use Rattle.plan_definitions.specs.Joins.{same_end, partners}
-use Rattle.join_search.specs.Partners.{added, has_several, summary, with_one, key_of, same_key, Key}
+use Rattle.plan_definitions.specs.Joins.{is_none, same_end, partners}
+use Rattle.join_search.specs.Partners.{added, has_several, summary, with_one, key_of, same_key, IsKeptBy, Key, TellsAll}
 use Rattle.plan_definitions.proofs.Keys.{same_end_is, same_end_refl}
 
 -- a partner that is kept already as the first changes nothing
@@ -61,42 +64,73 @@ module _ (own other : Join → End) (e : End) where
   none_left (k ∷ joins) zero kept past = absurd (omega arith)
   none_left (k ∷ joins) (suc i) kept past = none_left joins i kept (omega arith)
 
--- where no value is of several partners, none that is looked up is
-not_several : (b : Bool) → not b ≡ true → b ≡ false
-not_several false h = refl
-not_several true h = sym h
-
-single_by : (b : Bool) (p : Partners) (rest : Option Partners) → not p.several ≡ true → has_several rest ≡ false → has_several (cond b (Some p) rest) ≡ false
-single_by true p rest one others = not_several p.several one
-single_by false p rest one others = others
-
-pub none_several : (es : List (Key × Partners)) (test : Key → Bool) → list_all (λ p. not p.several) (values_of es) ≡ true → has_several (lookup test es) ≡ false
-none_several [] test all = refl
-none_several (e ∷ es) test all =
-    let parts = and_parts (not e.1.several) (list_all (λ p. not p.several) (values_of es)) all in
-    single_by (test e.0) e.1 (lookup test es) parts.0 (none_several es test parts.1)
-
--- whether several are kept, and that a join without several providers does not crowd
+-- whether several are kept
 pub several_is : (xs : List End) (kept : Option Partners) → kept ≡ summary xs → has_several kept ≡ are_several xs
 several_is [] kept is = ap has_several is
 several_is (x ∷ xs) kept is = ap has_several is
 
--- no map is there
-pub where_absent : {X : Type 0} (o : Option X) (b : Bool) → o ≡ None → (is_absent o && b) ≡ false → b ≡ false
-where_absent None b none h = h
-where_absent (Some x) b none h = cc
+-- a join more, of which the required end is not among those before
+module _ (e : End) where
+  providers_pushed : (joins : List Join) (j : Join) → providers (joins ++ j ∷ []) e ≡ providers joins e ++ cond (same_end j.required e) (j.provided ∷ []) []
+  providers_pushed [] j = by (same_end j.required e)
+    where
+      by : (b : Bool) → map (λ j. j.provided) (cond b (j ∷ []) []) ≡ cond b (j.provided ∷ []) []
+      by true = refl
+      by false = refl
+  providers_pushed (k ∷ joins) j = by (same_end k.required e) (providers_pushed joins j)
+    where
+      more : List End
+      more = cond (same_end j.required e) (j.provided ∷ []) []
 
-none_of : (a b : Bool) → b ≡ false → false ≡ (a && b)
-none_of true b none = sym none
-none_of false b none = refl
+      by : (b : Bool) → providers (joins ++ j ∷ []) e ≡ providers joins e ++ more
+          → map (λ j. j.provided) (cond b (k ∷ filter (λ j. same_end j.required e) (joins ++ j ∷ [])) (filter (λ j. same_end j.required e) (joins ++ j ∷ [])))
+          ≡ map (λ j. j.provided) (cond b (k ∷ filter (λ j. same_end j.required e) joins) (filter (λ j. same_end j.required e) joins)) ++ more
+      by true rest = ap (λ xs. k.provided ∷ xs) rest
+      by false rest = rest
 
-pub none_crowded : (rs ps : List End) (kept : Option Partners) → kept ≡ summary ps → has_several kept ≡ false → false ≡ (are_several rs && are_several ps)
-none_crowded rs ps kept is none = none_of (are_several rs) (are_several ps) (sym (several_is ps kept is) ∙ none)
+single_next : (ps : List End) (b had : Bool) (x : End) → (b ≡ true → had ≡ false) → are_several ps ≡ false → had ≡ not (is_none ps)
+    → (are_several (ps ++ cond b (x ∷ []) []) ≡ false) × ((b || had) ≡ not (is_none (ps ++ cond b (x ∷ []) [])))
+single_next [] true had x fresh one is = (refl, refl)
+single_next [] false had x fresh one is = (refl, is)
+single_next (p ∷ ps) true had x fresh one is = absurd (true≢false (sym is ∙ fresh refl))
+single_next (p ∷ ps) false had x fresh one is = (ap are_several (append-nil (p ∷ ps)) ∙ one, is)
 
--- what a map that is there keeps tells whether there are several
-pub known_several : {X : Type 0} (o : Option X) (x : X) (f : X → Option Partners) (xs : List End) → o ≡ Some x → option_map_or f o (summary xs) ≡ summary xs → has_several (f x) ≡ are_several xs
-known_several None x f xs is h = cc
-known_several (Some y) x f xs is h = several_is xs (f x) (ap f same ∙ h)
-  where
-    same : x ≡ y
-    same = cc
+-- an end that is new was not among those before
+pub unseen : (had is_new : Bool) → is_new ≡ not had → is_new ≡ true → had ≡ false
+unseen true is_new is new = sym new ∙ is
+unseen false is_new is new = refl
+
+pub single_more : (joins : List Join) (i : ℕ) (d : Join) (old new : Key → Bool) (a : End) → i < length joins → a ≡ (get_or joins i d).required → old (key_of a) ≡ false → ((q : Key) → new q ≡ (same_key (key_of a) q || old q))
+    → ((e : End) → (are_several (providers (take i joins) e) ≡ false) × (old (key_of e) ≡ not (is_none (providers (take i joins) e))))
+    → (e : End) → (are_several (providers (take (i + 1) joins) e) ≡ false) × (new (key_of e) ≡ not (is_none (providers (take (i + 1) joins) e)))
+single_more joins i d old new a within is unseen noted so_far e =
+    let h = so_far e in
+    let fresh : same_end (get_or joins i d).required e ≡ true → old (key_of e) ≡ false = λ same. ap (λ k. old (key_of k)) (sym (is ∙ same_end_is (get_or joins i d).required e same)) ∙ unseen in
+    let next = single_next (providers (take i joins) e) (same_end (get_or joins i d).required e) (old (key_of e)) (get_or joins i d).provided fresh h.0 h.1 in
+    let grown = ap (λ xs. providers xs e) (take_more joins i d within) ∙ providers_pushed e (take i joins) (get_or joins i d) in
+    (ap are_several grown ∙ next.0, noted (key_of e) ∙ ap (λ r. same_end r e || old (key_of e)) is ∙ next.1 ∙ ap (λ ps. not (is_none ps)) (sym grown))
+
+-- what is kept tells all
+not_both : (a b : Bool) → b ≡ false → false ≡ (a && b)
+not_both true b none = sym none
+not_both false b none = refl
+
+turned : (a b : Bool) → a ≡ not b → not a ≡ b
+turned a true h = ap not h
+turned a false h = ap not h
+
+none_is : (xs : List End) (kept : Option Partners) → kept ≡ summary xs → is_absent kept ≡ is_none xs
+none_is [] kept is = ap is_absent is
+none_is (x ∷ xs) kept is = ap is_absent is
+
+pub tells_all : (joins : List Join) (k : Kept) → IsKeptBy joins k → TellsAll joins k
+tells_all joins (kept.Single ends) h = record {
+  several = λ e. sym ((h e).0);
+  none = λ e. turned (contains same_key ends (key_of e)) (is_none (providers joins e)) ((h e).1);
+  crowded = λ p r. not_both (are_several (requirers joins p)) (are_several (providers joins r)) ((h r).0);
+}
+tells_all joins (kept.Several required provided) h = record {
+  several = λ e. several_is (providers joins e) (get same_key required (key_of e)) (h.0 e);
+  none = λ e. none_is (providers joins e) (get same_key required (key_of e)) (h.0 e);
+  crowded = λ p r. (λ j. several_is (requirers joins p) (get same_key provided (key_of p)) (h.1 p) j && several_is (providers joins r) (get same_key required (key_of r)) (h.0 r) j);
+}

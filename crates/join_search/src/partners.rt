@@ -1,15 +1,16 @@
 //! Who is joined with an end.
 
-ghost use Rattle.std.specs.Prelude.{◌≡◌, ◌&&◌, IfOk, IsTrue, OnOk, Some, false, is_none as is_absent, not};
+ghost use Rattle.std.specs.Prelude.{◌≡◌, ◌||◌, IfOk, IfSome, IsTrue, OnOk, Some, false, not};
 ghost use Rattle.description_types.specs.declared.flat.End.{End};
 ghost use Rattle.indexmap.specs.IndexMap.{Updates, get};
+ghost use Rattle.indexmap.specs.IndexSet.{contains};
 ghost use Rattle.plan_definitions.specs.Joins.{are_several, crowds, is_none, providers, same_end};
 ghost use Rattle.join_search.specs.declared.partners.Side.TheVariants as side;
-ghost use Rattle.join_search.specs.Partners.{AreKept, Key, MayBeKept, has_several, key_of, other, own, same_key, with_one};
+ghost use Rattle.join_search.specs.Partners.{AreKept, AreSingle, IsKeptBy, Key, TellsAll, has_several, key_of, other, own, same_key, with_one};
 
 use crate::item::Item;
 use description_types::{End, Join};
-use indexmap::IndexMap;
+use indexmap::{IndexMap, IndexSet};
 use rte_text::Memory;
 use std::alloc::Global;
 
@@ -112,19 +113,6 @@ fn kept_of_all(alloc: Global, side: Side, joins: &[Join]) -> Result<IndexMap<Key
     Ok(kept)
 }
 
-fn is_single(partners: &Partners) -> bool
-    ensures { result ≡ not partners.now.several }
-{
-    !partners.several
-}
-
-/// Whether no end has several partners.
-fn are_single(kept: &IndexMap<Key, Partners>) -> bool
-    ensures { IsTrue result → (q : Key) → has_several (get same_key kept.now q) ≡ false }
-{
-    kept.values().all(|partners| is_single(partners))
-}
-
 fn has_several(kept: &IndexMap<Key, Partners>, item: &Item) -> bool
     ensures { result ≡ has_several (get same_key kept.now (key_of item.now)) }
 {
@@ -134,78 +122,117 @@ fn has_several(kept: &IndexMap<Key, Partners>, item: &Item) -> bool
     }
 }
 
-/// What is kept of the partners of provided ends, and None if no required end has several: then nobody asks for it.
-fn kept_of_provided(
-    alloc: Global,
-    joins: &[Join],
-    of_required: &IndexMap<Key, Partners>,
-) -> Result<Option<IndexMap<Key, Partners>>, Memory>
-    ensures kept { IfOk result (λ found. MayBeKept side.Provided joins.now found) }
-    ensures single { IfOk result (λ found. (q : Key) → (is_absent found && has_several (get same_key of_required.now q)) ≡ false) }
+/// Notes a required end. The answer is whether it was not among those before.
+fn note_required(found: &mut IndexSet<Key>, end: End) -> Result<bool, Memory>
+    ensures is_new { IfOk result (λ is_new. is_new ≡ not (contains same_key found.old (key_of end))) }
+    ensures found { OnOk result ((q : Key) → contains same_key found.new q ≡ (same_key (key_of end) q || contains same_key found.old q)) }
 {
-    if are_single(of_required) {
-        return Ok(None);
+    let is_new = found.insert(key_of_end(end))?;
+    Ok(is_new)
+}
+
+/// The required ends, if each has one partner alone.
+fn single_ends(alloc: Global, joins: &[Join]) -> Result<Option<IndexSet<Key>>, Memory>
+    ensures { IfOk result (λ found. IfSome found (AreSingle joins.now)) }
+{
+    let mut found = IndexSet::with_capacity(alloc, joins.len())?;
+    for join in joins {
+        if !note_required(&mut found, join.required)? {
+            return Ok(None);
+        }
     }
-    let kept = kept_of_all(alloc, Side::Provided, joins)?;
-    Ok(Some(kept))
+    Ok(Some(found))
+}
+
+/// What is kept of the ends of joins, as far as it matters.
+#[derive(Drop)]
+pub enum Kept {
+    /// The required ends, none of which has several partners. Then nobody asks for those of provided ends.
+    Single(IndexSet<Key>),
+    /// The partners of required ends, and of provided ones.
+    Several(IndexMap<Key, Partners>, IndexMap<Key, Partners>),
+}
+
+/// The partners of all ends.
+fn several_over(alloc: Global, joins: &[Join]) -> Result<Kept, Memory>
+    ensures { IfOk result (IsKeptBy joins.now) }
+{
+    let required = kept_of_all(alloc, Side::Required, joins)?;
+    match kept_of_all(alloc, Side::Provided, joins) {
+        Ok(provided) => Ok(Kept::Several(required, provided)),
+        Err(memory) => {
+            drop(required);
+            Err(memory)
+        }
+    }
+}
+
+fn kept_over(alloc: Global, joins: &[Join]) -> Result<Kept, Memory>
+    ensures { IfOk result (IsKeptBy joins.now) }
+{
+    match single_ends(alloc, joins)? {
+        Some(ends) => Ok(Kept::Single(ends)),
+        None => several_over(alloc, joins),
+    }
 }
 
 /// How many partners the ends of joins have, as far as it matters.
 #[derive(Drop)]
 pub struct Degrees<'a> {
     pub joins: &'a [Join],
-    of_required: IndexMap<Key, Partners>,
-    /// None if no required end has several partners.
-    of_provided: Option<IndexMap<Key, Partners>>,
-    ghost required: { AreKept side.Required joins.now of_required },
-    ghost provided: { MayBeKept side.Provided joins.now of_provided },
-    ghost single: { (q : Key) → (is_absent of_provided && has_several (get same_key of_required q)) ≡ false },
+    kept: Kept,
+    ghost known: { TellsAll joins.now kept },
 }
 
 impl Degrees<'_> {
     /// The degrees of the ends of these joins.
+    #[tactic(auto, using(crate::proofs::Keeping::tells_all))]
     pub fn new(alloc: Global, joins: &[Join]) -> Result<Degrees<'_>, Memory>
         ensures { IfOk result (λ degrees. degrees.joins.now ≡ joins.now) }
     {
-        let of_required = kept_of_all(alloc, Side::Required, joins)?;
-        let of_provided = kept_of_provided(alloc, joins, &of_required)?;
-        Ok(Degrees {
-            joins,
-            of_required,
-            of_provided,
-        })
+        let kept = kept_over(alloc, joins)?;
+        Ok(Degrees { joins, kept })
     }
 
     /// Whether no required end has several provided ones, if that is known at once.
     pub fn are_single(&self) -> bool
         ensures { IsTrue result → (e : End) → are_several (providers self.now.joins.now e) ≡ false }
     {
-        self.of_provided.is_none()
+        match &self.kept {
+            Kept::Single(_) => true,
+            Kept::Several(_, _) => false,
+        }
     }
 
     /// Whether two provided ends or more are joined with a required one.
     pub fn has_several_providers(&self, required: &Item) -> bool
         ensures { result ≡ are_several (providers self.now.joins.now required.now) }
     {
-        has_several(&self.of_required, required)
+        match &self.kept {
+            Kept::Single(_) => false,
+            Kept::Several(of_required, _) => has_several(of_required, required),
+        }
     }
 
     /// Whether no provided end is joined with a required one.
     pub fn has_no_provider(&self, required: &Item) -> bool
         ensures { result ≡ is_none (providers self.now.joins.now required.now) }
     {
-        kept_of(&self.of_required, required).is_none()
+        match &self.kept {
+            Kept::Single(ends) => !ends.contains(&key_of(required)),
+            Kept::Several(of_required, _) => kept_of(of_required, required).is_none(),
+        }
     }
 
     /// Whether both ends of a join have several partners.
     pub fn crowds(&self, join: &Join) -> bool
         ensures { result ≡ crowds self.now.joins.now join.now }
     {
-        match &self.of_provided {
-            None => false,
-            Some(kept) => {
-                has_several(kept, &Item::of(join.provided))
-                    && self.has_several_providers(&Item::of(join.required))
+        match &self.kept {
+            Kept::Single(_) => false,
+            Kept::Several(of_required, of_provided) => {
+                has_several(of_provided, &Item::of(join.provided))
+                    && has_several(of_required, &Item::of(join.required))
             }
         }
     }
