@@ -1,5 +1,5 @@
 -- The rules that each value of a description is judged by, and the refusal.
-use Rattle.std.specs.Prelude.{◌≡◌, ℕ, List, [], ◌∷◌, Option, Some, None, ◌⊎◌, IsUtf8, codes}
+use Rattle.std.specs.Prelude.{◌≡◌, ℕ, List, [], ◌∷◌, Bool, ◌||◌, Option, Some, None, ◌⊎◌, IsUtf8, codes}
 use Rattle.serde_json.specs.Data.{Data}
 use Rattle.serde_json.specs.Read.{read}
 use Rattle.rte_text.specs.declared.refusal.Refusal.{Refusal}
@@ -9,11 +9,15 @@ use Rattle.description_places.specs.Catalogs.{catalog_of}
 use Rattle.description_places.specs.declared.catalogs.Catalog.{Catalog}
 use Rattle.description_places.specs.Distinct.{breaks_distinct}
 use Rattle.description_places.specs.References.{breaks_references}
-use Rattle.description_shapes.specs.Rules.{breaks_names, breaks_shape, visits_of}
-use Rattle.description_shapes.specs.Visits.{first_broken}
+use Rattle.description_shapes.specs.Rules.{breaks_names, breaks_shape, breaks_shape_or_names, visits_of}
+use Rattle.description_shapes.specs.Visits.{Visit, first_broken}
 
 -- Rule 4: what a list declares has distinct names; the place is the second one. Lists of names that refer declare none.
 -- Rule 5: what the names refer to is declared.
+
+-- rules 2 to 5 together
+abbrev pub breaks_any : Catalog → Visit → Bool
+breaks_any lists v = breaks_shape_or_names v || (breaks_distinct lists v || breaks_references lists v)
 
 -- a place as it is written: a JSON pointer, the whole as `/`
 abbrev pub written : List ℕ → List ℕ

@@ -3,7 +3,8 @@
 ghost use Rattle.std.specs.Prelude.{◌≡◌, IfOk, IfErr, option_map, string_bytes};
 ghost use Rattle.serde_json.specs.View.{view};
 ghost use Rattle.description_shapes.specs.Rules.{visits_of};
-ghost use Rattle.description_places.specs.Rules.{refusal, refusal_by, refusal_of_names, rule_and_place, written, IsRefusalOf, IsUnbroken};
+ghost use Rattle.description_places.specs.Catalogs.{catalog_of};
+ghost use Rattle.description_places.specs.Rules.{breaks_any, refusal, rule_and_place, written, IsRefusalOf, IsUnbroken};
 ghost use Rattle.description_shapes.specs.Visits.{first_broken};
 
 use crate::catalogs::{Catalog, catalog_of};
@@ -36,18 +37,64 @@ pub fn judge(alloc: Global, bytes: &[u8]) -> Result<Value, Refused>
     }
 }
 
-/// Rules 2 and 3 are looked at together, and one after the other only if one of them is broken.
-#[tactic(auto, using(crate::proofs::Judged::refusal_is_of_names))]
-fn refusal_of(alloc: Global, value: &Value) -> Result<Option<Refusal>, Memory>
-    ensures { IfOk result (λ found. option_map rule_and_place found ≡ refusal (view value.now)) }
-{
-    match first_place(alloc, &ShapeOrNameRule, value)? {
-        Some(_) => refusal_in_turn(alloc, value),
-        None => refusal_of_names(alloc, value),
+/// Rules 2 to 5 together.
+#[derive(Clone, Copy)]
+struct AnyRule<'s, 'v> {
+    /// What the description declares.
+    declared: &'s Catalog<'v>,
+}
+
+impl Rule for AnyRule<'_, '_> {
+    ghost breaks = { λ rule. breaks_any rule.declared.now };
+
+    fn is_broken(&self, value: &Value, kind: Kind, trail: &Trail) -> bool {
+        let distinct = DistinctRule {
+            declared: self.declared,
+        };
+        let references = ReferenceRule {
+            declared: self.declared,
+        };
+        ShapeOrNameRule.is_broken(value, kind, trail)
+            || distinct.is_broken(value, kind, trail)
+            || references.is_broken(value, kind, trail)
+    }
+
+    fn passes(&self, _kind: Kind) -> bool {
+        false
+    }
+
+    fn skips(&self, _kind: Kind) -> bool {
+        false
     }
 }
 
-fn refusal_in_turn(alloc: Global, value: &Value) -> Result<Option<Refusal>, Memory>
+fn refusal_of(alloc: Global, value: &Value) -> Result<Option<Refusal>, Memory>
+    ensures { IfOk result (λ found. option_map rule_and_place found ≡ refusal (view value.now)) }
+{
+    let declared = catalog_of(alloc, value)?;
+    let refusal = refusal_by(alloc, value, &declared);
+    drop(declared);
+    refusal
+}
+
+/// All rules are looked at together, and one after the other only if one of them is broken.
+#[tactic(auto, using(crate::proofs::Judged::unbroken_by_any))]
+fn refusal_by(alloc: Global, value: &Value, declared: &Catalog) -> Result<Option<Refusal>, Memory>
+    requires { declared.now ≡ catalog_of (view value.now) }
+    ensures { IfOk result (λ found. option_map rule_and_place found ≡ refusal (view value.now)) }
+{
+    match first_place(alloc, &AnyRule { declared }, value)? {
+        Some(_) => refusal_in_turn(alloc, value, declared),
+        None => Ok(None),
+    }
+}
+
+fn refusal_in_turn(
+    alloc: Global,
+    value: &Value,
+    declared: &Catalog,
+) -> Result<Option<Refusal>, Memory>
+    requires { declared.now ≡ catalog_of (view value.now) }
     ensures { IfOk result (λ found. option_map rule_and_place found ≡ refusal (view value.now)) }
 {
     if let Some(place) = first_place(alloc, &ShapeRule, value)? {
@@ -56,21 +103,6 @@ fn refusal_in_turn(alloc: Global, value: &Value) -> Result<Option<Refusal>, Memo
     if let Some(place) = first_place(alloc, &NameRule, value)? {
         return Ok(Some(refusal_at(alloc, 3, place)?));
     }
-    refusal_of_names(alloc, value)
-}
-
-fn refusal_of_names(alloc: Global, value: &Value) -> Result<Option<Refusal>, Memory>
-    ensures { IfOk result (λ found. option_map rule_and_place found ≡ refusal_of_names (view value.now)) }
-{
-    let declared = catalog_of(alloc, value)?;
-    let refusal = refusal_by(alloc, value, &declared);
-    drop(declared);
-    refusal
-}
-
-fn refusal_by(alloc: Global, value: &Value, declared: &Catalog) -> Result<Option<Refusal>, Memory>
-    ensures { IfOk result (λ found. option_map rule_and_place found ≡ refusal_by declared.now (view value.now)) }
-{
     if let Some(place) = first_place(alloc, &DistinctRule { declared }, value)? {
         return Ok(Some(refusal_at(alloc, 4, place)?));
     }

@@ -43,6 +43,9 @@
 //! **Which rule refuses a core that there is not?** The one on references, a negative core too. Both are whole numbers, so their
 //! shape is right.
 //!
+//! **Is each rule looked for by a walk of its own?** Only if one is broken. One walk tells first whether a value breaks any of rules 2
+//! to 5, and of a description that breaks none it is the only one.
+//!
 //! **How is a reference followed?** By positions: a component or composition is known by its number, a port leads to where its
 //! interface stands, a prototype to where its type does. So an item is found in two steps from its port, and no list is walked for
 //! a name but the modes of a group, which are 32 at most.
