@@ -10,7 +10,7 @@
 //! arguments of its operation and `error`. The typed values are those of `description_types`.
 //!
 //! A reading is there for every value (`specs/Descriptions.antt`), with defaults if the rules leave nothing to be read.
-//! Each name is looked up by hash, so reading grows linearly with the file.
+//! Each name is looked up by hash or among a few, so reading grows linearly with the file.
 //!
 //! # Decisions
 //!

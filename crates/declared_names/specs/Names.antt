@@ -1,6 +1,7 @@
 -- Names, and where they stand.
-use Rattle.std.specs.Prelude.{ℕ, ◌+◌, List, [], ◌∷◌, Bool, false, map, length, nat_lt, bytes_eq, codes, if◌then◌else◌, slice_get, Option, Some, None}
+use Rattle.std.specs.Prelude.{◌≡◌, ℕ, ◌+◌, List, [], ◌∷◌, Bool, false, map, length, nat_lt, bytes_eq, codes, if◌then◌else◌, slice_get, Option, Some, None, unwrap_or}
 use Rattle.std.specs.Borrow.{Bor}
+use Rattle.std.specs.HashMap.{HashMap, get_by}
 use Rattle.serde_json.specs.Data.{Data}
 use Rattle.declared_names.specs.Values.{text_at, text_in}
 
@@ -43,3 +44,7 @@ texts ds = map text_in ds
 -- the text that a reference gives
 abbrev pub text_of : Bor (List ℕ) → List ℕ
 text_of s = s.now
+
+-- a map has where each of the names first stands
+abbrev pub ArePlaced : {S : Type 0} → List (Bor (List ℕ)) → HashMap (Bor (List ℕ)) ℕ S → Type 0
+ArePlaced names places = (name : List ℕ) → unwrap_or (get_by (λ k. bytes_eq name k.now) places) (length names) ≡ position_in (map text_of names) name

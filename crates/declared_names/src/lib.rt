@@ -2,8 +2,8 @@
 //!
 //! `scope_of` gathers the names of a description's types, interfaces, components and compositions, `component_names` those
 //! of one component. A name stands at the position of the first item of this name, and at the number of items if none
-//! has it. Names are looked up by hash, in maps that are built once for each list that declares them. Beside them stands
-//! what is taken from a JSON value: a key that is missing or of another kind counts as empty, zero or false.
+//! has it. A list of a few names is looked through; in a longer one names are looked up by hash, in a map that is built once.
+//! Beside them stands what is taken from a JSON value: a key that is missing or of another kind counts as empty, zero or false.
 //!
 //! # Decisions
 //!

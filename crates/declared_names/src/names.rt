@@ -2,7 +2,7 @@
 
 ghost use Rattle.std.specs.Prelude.{◌≡◌, ◌<◌, ◌^◌, IfOk, length, map};
 ghost use Rattle.serde_json.specs.View.{view};
-ghost use Rattle.declared_names.specs.Names.{has_at, has_name, position_at, position_in, short_names, text_of, texts};
+ghost use Rattle.declared_names.specs.Names.{ArePlaced, has_at, has_name, position_at, position_in, short_names, text_of, texts};
 ghost use Rattle.declared_names.specs.Sizes.{IsSmall};
 ghost use Rattle.declared_names.specs.Values.{items_at};
 
@@ -13,7 +13,10 @@ use serde_json::Value;
 use std::alloc::Global;
 use std::marker::Model;
 
-/// The names of a list, however long it is, with where each stands.
+/// A list of at most so many names is looked through: that takes less than to look a name up by hash.
+const FEW: usize = 8;
+
+/// The names of a list, however long it is, with where each of more than a few stands.
 #[derive(Drop)]
 pub struct NameList<'a> {
     names: Vec<&'a str>,
@@ -21,16 +24,40 @@ pub struct NameList<'a> {
 }
 
 impl<'a> Model for NameList<'a> {
-    ghost use Rattle.std.specs.Prelude.{◌≡◌, ℕ, List, bytes_eq, length, map, unwrap_or};
-    ghost use Rattle.indexmap.specs.IndexMap.{get_by};
-    ghost use Rattle.declared_names.specs.Names.{position_in, text_of};
+    ghost use Rattle.std.specs.Prelude.{ℕ, ◌<◌, List, length, map};
+    ghost use Rattle.declared_names.specs.Names.{ArePlaced, text_of};
 
     ghost Value = { List (List ℕ) };
 
     ghost view = { λ p. map text_of p.names.items };
 
-    ghost invariant = { λ p. (name : List ℕ) →
-        unwrap_or (get_by (λ k. bytes_eq name k.now) p.places) (length p.names.items) ≡ position_in (map text_of p.names.items) name };
+    ghost invariant = { λ p. 8 < length p.names.items → ArePlaced p.names.items p.places };
+}
+
+/// Where each of the names first stands.
+fn places_of<'a>(alloc: Global, names: &[&'a str]) -> Result<IndexMap<&'a str, usize>, Memory>
+    ensures { IfOk result (ArePlaced names.now) }
+{
+    let mut places = IndexMap::new(alloc);
+    let mut left = names.len();
+    while left > 0 {
+        left -= 1;
+        places.insert(names[left], left)?;
+    }
+    Ok(places)
+}
+
+/// Where the name first stands, and how many names there are where it is none of them.
+#[tactic(auto, using(crate::proofs::Placed::place_turn))]
+fn first_of(names: &[&str], name: &str) -> usize
+    ensures { result ≡ position_in (map text_of names.now) name.now }
+{
+    for place in 0..names.len() {
+        if names[place] == name {
+            return place;
+        }
+    }
+    names.len()
 }
 
 impl<'a> NameList<'a> {
@@ -38,12 +65,11 @@ impl<'a> NameList<'a> {
     pub fn of(alloc: Global, names: Vec<&'a str>) -> Result<NameList<'a>, Memory>
         ensures { IfOk result (λ p. p ≡ map text_of names.entry.items) }
     {
-        let mut places = IndexMap::new(alloc);
-        let mut left = names.len();
-        while left > 0 {
-            left -= 1;
-            places.insert(names[left], left)?;
-        }
+        let places = if names.len() <= FEW {
+            IndexMap::new(alloc)
+        } else {
+            places_of(alloc, names.as_slice())?
+        };
         Ok(NameList { names, places })
     }
 
@@ -65,6 +91,9 @@ impl<'a> NameList<'a> {
     pub fn find(&self, name: &str) -> usize
         ensures { result ≡ position_in self.now name.now }
     {
+        if self.names.len() <= FEW {
+            return first_of(self.names.as_slice(), name);
+        }
         match self.places.get(name) {
             Some(position) => *position,
             None => self.names.len(),

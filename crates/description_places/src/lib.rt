@@ -18,7 +18,7 @@
 //!   later rules.
 //!
 //! Places are JSON pointers (RFC 6901), and the whole is `/`. `catalog_of` gathers the names of all lists that rules 4 and 5 look
-//! in, however long they are. They are looked up by hash, in maps that are built once for each list.
+//! in, however long they are. They are looked up by hash, in maps that are built once for each list of more than a few.
 //!
 //! # Decisions
 //!
