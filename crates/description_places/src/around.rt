@@ -50,6 +50,16 @@ pub(crate) fn number_of(trail: &Trail, steps: u8) -> usize
     }
 }
 
+/// Which part of the value right round it the trail stands in.
+fn number_here(trail: &Trail) -> usize
+    ensures { result ≡ number_of 0 ((spot_of trail.now).around) }
+{
+    match trail {
+        Trail::Whole | Trail::Member(_, _, _, _) => 0,
+        Trail::Part(_, _, _, number) => *number,
+    }
+}
+
 pub(crate) fn text_around<'a>(trail: &Trail<'a>, steps: u8, key: &str) -> &'a str
     ensures { result.now ≡ text_at key.now (value_at steps ((spot_of trail.now).around)) }
 {
@@ -104,7 +114,7 @@ pub(crate) fn type_around(trail: &Trail) -> Option<TypeNumber>
         Trail::Whole => None,
         Trail::Member(outer, _, kind, _) | Trail::Part(outer, _, kind, _) => match type_of(
             *kind,
-            number_of(*outer, 0),
+            number_here(*outer),
         ) {
             Some(found) => Some(found),
             None => type_around(*outer),

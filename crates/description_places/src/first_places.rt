@@ -50,6 +50,9 @@ fn first_places_of(alloc: Global, texts: &[String]) -> Result<Seq<usize>, Memory
     first_places(alloc, names)
 }
 
+/// Room that the texts of most accesses fit in, in bytes.
+const ROOM: usize = 48;
+
 /// The text, with each part behind it after a space.
 fn with_parts(start: String, parts: &[Value]) -> Result<String, Memory>
     ensures { IfOk result (λ text. string_bytes text ≡ string_bytes start ++ parts_text (items_view parts.now)) }
@@ -66,7 +69,7 @@ fn access_text(alloc: Global, value: &Value) -> Result<String, Memory>
     ensures { IfOk result (λ text. string_bytes text ≡ access_text (view value.now)) }
 {
     match value.as_array() {
-        Some(parts) => with_parts(String::new(alloc), parts),
+        Some(parts) => with_parts(String::with_capacity(alloc, ROOM)?, parts),
         None => Ok(String::new(alloc)),
     }
 }
