@@ -2,13 +2,13 @@
 
 ghost use Rattle.std.specs.Prelude.{◌≡◌};
 ghost use Rattle.serde_json.specs.View.{view};
-ghost use Rattle.description_shapes.specs.Rules.{breaks_shape, breaks_names, breaks_shape_or_names, is_no_name};
+ghost use Rattle.description_shapes.specs.Rules.{breaks_shape, breaks_names, breaks_shape_or_names, is_no_name, is_no_name_of};
 
 use crate::form::{Form, form_of};
 use crate::kind::Kind;
 use crate::names::is_name;
 use crate::rule::Rule;
-use crate::shape::has_shape;
+use crate::shape::{fits, has_shape};
 use crate::trail::Trail;
 use serde_json::Value;
 
@@ -32,17 +32,24 @@ impl Rule for ShapeRule {
     }
 }
 
-/// Whether a value stands where a name should, and is none.
-fn is_no_name(kind: Kind, value: &Value) -> bool
-    ensures { result ≡ is_no_name kind (view value.now) }
+/// Whether a value should be a name by its form, and is none.
+fn is_no_name_of(form: Form, value: &Value) -> bool
+    ensures { result ≡ is_no_name_of form (view value.now) }
 {
-    match form_of(kind) {
+    match form {
         Form::Name => match value.as_str() {
             Some(text) => !is_name(text.as_bytes()),
             None => true,
         },
         _ => false,
     }
+}
+
+/// Whether a value stands where a name should, and is none.
+fn is_no_name(kind: Kind, value: &Value) -> bool
+    ensures { result ≡ is_no_name kind (view value.now) }
+{
+    is_no_name_of(form_of(kind), value)
 }
 
 /// Rule 3: each name has 1 to 32 bytes, a letter, then letters, digits and `_`.
@@ -73,7 +80,8 @@ impl Rule for ShapeOrNameRule {
     ghost breaks = { λ _. breaks_shape_or_names };
 
     fn is_broken(&self, value: &Value, kind: Kind, _trail: &Trail) -> bool {
-        !has_shape(kind, value) || is_no_name(kind, value)
+        let form = form_of(kind);
+        !fits(form, kind, value) || is_no_name_of(form, value)
     }
 
     fn passes(&self, _kind: Kind) -> bool {

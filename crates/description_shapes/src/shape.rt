@@ -5,7 +5,7 @@ ghost use Rattle.serde_json.specs.Find.{get_member};
 ghost use Rattle.serde_json.specs.View.{view, members_view};
 ghost use Rattle.description_shapes.specs.Keys.{key_of};
 ghost use Rattle.description_shapes.specs.Rows.{text_of};
-ghost use Rattle.description_shapes.specs.Shape.{has_needed, is_key, has_only, is_among, is_within, part_count, has_shape};
+ghost use Rattle.description_shapes.specs.Shape.{has_needed, is_key, has_only, is_among, is_within, part_count, fits, has_shape};
 
 use crate::form::{Form, form_of};
 use crate::keys::{Field, keys_of};
@@ -82,11 +82,11 @@ fn part_count(value: &Value) -> Option<usize>
     }
 }
 
-/// Whether a value has the shape of its kind. Of what it holds only the keys and the number of parts are looked at.
-pub fn has_shape(kind: Kind, value: &Value) -> bool
-    ensures { result ≡ has_shape kind (view value.now) }
+/// Whether a value has the shape of its kind, whose form this is.
+pub(crate) fn fits(form: Form, kind: Kind, value: &Value) -> bool
+    ensures { result ≡ fits form kind (view value.now) }
 {
-    match form_of(kind) {
+    match form {
         Form::Anything => true,
         Form::Nothing => false,
         Form::Object => match value.as_object() {
@@ -116,4 +116,11 @@ pub fn has_shape(kind: Kind, value: &Value) -> bool
         },
         Form::Flag => value.is_boolean(),
     }
+}
+
+/// Whether a value has the shape of its kind. Of what it holds only the keys and the number of parts are looked at.
+pub fn has_shape(kind: Kind, value: &Value) -> bool
+    ensures { result ≡ has_shape kind (view value.now) }
+{
+    fits(form_of(kind), kind, value)
 }
