@@ -145,9 +145,10 @@ impl Walk {
         if self.held {
             return Next::Over;
         }
+        // Each arm returns: what the arms give to a match is copied once more behind it.
         match &self.running {
-            Some(running) => running.frame.next_call(t),
-            None => Next::Over,
+            Some(running) => return running.frame.next_call(t),
+            None => return Next::Over,
         }
     }
 

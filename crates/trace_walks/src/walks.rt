@@ -181,9 +181,10 @@ impl Walks {
         ensures { (p : Plan) (h : History) (w : Wanted) → AsksAsPlanned p t.now → key_fits p key ≡ true → WalksStand t.now p h self.now →
             wanted_in result ≡ Some w → IsWanted p h key w }
     {
+        // Each arm returns: what the arms give to a match is copied once more behind it.
         match self.walk(key) {
-            Some(walk) => walk.wanted(t),
-            None => Next::Over,
+            Some(walk) => return walk.wanted(t),
+            None => return Next::Over,
         }
     }
 
