@@ -15,7 +15,7 @@ use Rattle.task_slots.specs.Looking.{AllHeld}
 use Rattle.task_slots.specs.Waiting.{flags, EventsHeld, is_free_task, is_free, idle_tries}
 use Rattle.latches.proofs.Places.{Placed, here, there, placed}
 use Rattle.task_slots.proofs.Unchanged.{TriesHeld}
-use Rattle.core_turn.specs.Awake.{AwakeState, all_awake, Fits, AreHeld, StartsHeld, IsQuiet, HeldTold, IsSettled, with_slots}
+use Rattle.core_turn.specs.Awake.{AwakeState, all_awake, Fits, AreHeld, StartsHeld, IsOver, IsQuiet, HeldTold, IsSettled, with_slots}
 use Rattle.core_turn.proofs.Order.{no_both}
 use Rattle.core_turn.proofs.Waiters.{none_waits, waiter_held}
 
@@ -112,6 +112,22 @@ starts_on p t objects slots a n place row at held = record {
     of_place : (i j e : ℕ) (s : Slot) (r : List Bool) → slice_get slots i ≡ Some s → slice_get (events_of_slot s) j ≡ Some e → slice_get r j ≡ Some false → Placed (List Bool) a.events n (set row place true) i r → AllHeld p objects (start_try p e)
     of_place i j e s r found event sleeps (here same is) =
         held.events i j e s row found (ap (slice_get a.events) same ∙ at) event (not_before row place j (subst (λ x. slice_get x j ≡ Some false) is sleeps)).1
+    of_place i j e s r found event sleeps (there other here_it) = held.events i j e s r found here_it event sleeps
+
+-- an event falls asleep, no start by which may come
+pub starts_off : (p : Plan) (t : TaskSet) (objects : List Object) (slots : List Slot) (a : AwakeState) (n place : ℕ) (row : List Bool) → slice_get a.events n ≡ Some row → IsOver p objects slots n place → StartsHeld p t objects slots a
+    → StartsHeld p t objects slots (with_rows a (set a.events n (set row place false)))
+starts_off p t objects slots a n place row at over held = record {
+  events = λ i j e s r found there_it event sleeps. of_place i j e s r found event sleeps (placed a.events n (set row place false) i r there_it);
+  slots = held.slots;
+}
+  where
+    of_flag : (i j e : ℕ) (s : Slot) → slice_get slots i ≡ Some s → slice_get (events_of_slot s) j ≡ Some e → i ≡ n → Placed Bool row place false j false → AllHeld p objects (start_try p e)
+    of_flag i j e s found event same (here is off) = over s e (ap (slice_get slots) (sym same) ∙ found) (ap (slice_get (events_of_slot s)) (sym is) ∙ event)
+    of_flag i j e s found event same (there other was) = held.events i j e s row found (ap (slice_get a.events) same ∙ at) event was
+
+    of_place : (i j e : ℕ) (s : Slot) (r : List Bool) → slice_get slots i ≡ Some s → slice_get (events_of_slot s) j ≡ Some e → slice_get r j ≡ Some false → Placed (List Bool) a.events n (set row place false) i r → AllHeld p objects (start_try p e)
+    of_place i j e s r found event sleeps (here same is) = of_flag i j e s found event same (placed row place false j false (subst (λ x. slice_get x j ≡ Some false) is sleeps))
     of_place i j e s r found event sleeps (there other here_it) = held.events i j e s r found here_it event sleeps
 
 -- ---- where a bench tells its objects
@@ -245,6 +261,20 @@ fits_row slots first a at s row found width fits = record {
         let one : Some x ≡ Some s = sym there_it ∙ ap (slice_get slots) same ∙ found in
         let own : s ≡ x = cc in
         ap length is ∙ width ∙ ap (λ (y : Slot). length (events_of_slot y)) own
+    of_place i x r there_it (there other here_it) = fits.widths i x r there_it here_it
+
+pub fits_off : (slots : List Slot) (first : ℕ) (a : AwakeState) (n place : ℕ) (row : List Bool) → slice_get a.events n ≡ Some row → Fits slots first a → Fits slots first (with_rows a (set a.events n (set row place false)))
+fits_off slots first a n place row at fits = record {
+  count = fits.count;
+  rows = length-set a.events n (set row place false) ∙ fits.rows;
+  widths = λ i x r there_it at_it. of_place i x r there_it (placed a.events n (set row place false) i r at_it);
+  waiting = fits.waiting;
+  areas = fits.areas;
+  begins = fits.begins;
+}
+  where
+    of_place : (i : ℕ) (x : Slot) (r : List Bool) → slice_get slots i ≡ Some x → Placed (List Bool) a.events n (set row place false) i r → length r ≡ length (events_of_slot x)
+    of_place i x r there_it (here same is) = ap length is ∙ length-set row place false ∙ fits.widths i x row there_it (ap (slice_get a.events) same ∙ at)
     of_place i x r there_it (there other here_it) = fits.widths i x r there_it here_it
 
 pub fits_stepped : (slots : List Slot) (first : ℕ) (a : AwakeState) (at : ℕ) (s stepped : Slot) → slice_get slots at ≡ Some s → events_of_slot stepped ≡ events_of_slot s → Fits slots first a → Fits (set slots at stepped) first a

@@ -57,6 +57,10 @@ pub record StartsHeld (p : Plan) (t : TaskSet) (objects : List Object) (of : Lis
       → AllHeld p objects (start_try p e)
   pub slots : (i : ℕ) (s : Slot) → slice_get of i ≡ Some s → slice_get a.slots i ≡ Some false → slice_get a.waiting i ≡ Some false → IsQuiet p t objects s
 
+-- no start by the event at this place of a slot may come
+abbrev pub IsOver : Plan → List Object → List Slot → (slot place : ℕ) → Type 0
+IsOver p objects slots slot place = (s : Slot) (e : ℕ) → slice_get slots slot ≡ Some s → slice_get (events_of_slot s) place ≡ Some e → AllHeld p objects (start_try p e)
+
 -- ---- activations that wait at areas
 
 -- nobody may enter the area that is this object

@@ -6,7 +6,7 @@ ghost use Rattle.port_objects.specs.declared.object.Object.{Object};
 ghost use Rattle.place_set.specs.Places.{NoneBetween};
 ghost use Rattle.task_machine.specs.declared.instr.TaskSet.{TaskSet};
 ghost use Rattle.task_slots.specs.declared.slot.Slot.{Slot};
-ghost use Rattle.core_turn.specs.Awake.{Fits, AreHeld, StartsHeld, WaitersHeld, IsNextWaiter, FirstIs, FirstWakes, all_awake};
+ghost use Rattle.core_turn.specs.Awake.{Fits, AreHeld, StartsHeld, IsOver, WaitersHeld, IsNextWaiter, FirstIs, FirstWakes, all_awake};
 
 use crate::Memory;
 use crate::cores::Core;
@@ -138,6 +138,20 @@ impl Awake {
         self.slots.insert(slot);
         self.events[slot].insert(place);
         self.waiting.remove(slot);
+    }
+
+    /// Puts the event at a place of the slot to sleep, and leaves the slot as it is. What sleeps then is held if it was, and if no start
+    /// by this event may come.
+    pub fn rest(&mut self, slot: usize, place: usize)
+        requires place { place < length (slice_index_or self.old.events slot []) }
+        ensures first { self.new.first ≡ self.old.first }
+        ensures fits { (slots : List Slot) (first : ℕ) → Fits slots first self.old → Fits slots first self.new }
+        ensures starts { (p : Plan) (t : TaskSet) (objects : List Object) (slots : List Slot) → IsOver p objects slots slot place
+            → StartsHeld p t objects slots self.old → StartsHeld p t objects slots self.new }
+        ensures waiters { (p : Plan) (t : TaskSet) (objects : List Object) (touched : Option ℕ) (slots : List Slot) (first : ℕ) →
+            WaitersHeld p t objects touched slots first self.old → WaitersHeld p t objects touched slots first self.new }
+    {
+        self.events[slot].remove(place);
     }
 
     /// How many slots the core has.
