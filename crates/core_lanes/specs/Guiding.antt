@@ -1,7 +1,8 @@
 -- What guides a core in its turns.
-use Rattle.std.specs.Prelude.{◌≡◌, ◌<◌, List, [], ◌∷◌}
-use Rattle.std.specs.Vec.{vec_capacity}
-use Rattle.core_turn.specs.Awake.{Fits}
+use Rattle.std.specs.Prelude.{◌≡◌, ◌<◌, ℕ, zero, suc, List, [], ◌∷◌, Vec}
+use Rattle.bus_semantics.specs.Common.{Global, vec_capacity}
+use Rattle.bus_semantics.specs.declared.entries.Stamped.{Stamped}
+use Rattle.core_turn.specs.Awake.{AwakeState, Fits}
 use Rattle.core_turn.specs.Cores.{CoreState}
 use Rattle.core_lanes.specs.declared.guided.Guide.{Guide}
 
@@ -11,8 +12,14 @@ pub record IsGuide (c : CoreState) (g : Guide) : Type 0 where
   pub none : g.made.items ≡ []
   pub space : 0 < vec_capacity g.made
 
--- a guide for each of these cores, in their order
-abbrev pub AreGuides : List CoreState → List Guide → Type 0
-AreGuides [] [] = Unit {0}
-AreGuides (c ∷ cores) (g ∷ guides) = IsGuide c g × AreGuides cores guides
-AreGuides _ _ = ⊥
+-- what of each of these cores may step, as far as it is known, in their order
+abbrev pub AreFitting : List CoreState → List AwakeState → Type 0
+AreFitting [] [] = Unit {0}
+AreFitting (c ∷ cores) (a ∷ awake) = Fits c.slots c.first a × AreFitting cores awake
+AreFitting _ _ = ⊥
+
+-- so many lists, each empty and with room for an entry
+abbrev pub AreRooms : (count : ℕ) → List (Vec Stamped Global) → Type 0
+AreRooms zero [] = Unit {0}
+AreRooms (suc n) (v ∷ rooms) = (v.items ≡ []) × (0 < vec_capacity v) × AreRooms n rooms
+AreRooms _ _ = ⊥

@@ -16,7 +16,7 @@ use Rattle.core_lanes.specs.declared.together.Places.{Places}
 use Rattle.core_lanes.specs.declared.together.Together.{Together}
 use Rattle.core_lanes.specs.declared.together.Together.TheVariants.{Ran, Memory}
 use Rattle.core_lanes.specs.Rooms.{HaveRoom}
-use Rattle.core_lanes.specs.Guiding.{AreGuides}
+use Rattle.core_lanes.specs.Guiding.{AreFitting, AreRooms}
 
 abbrev pub AllReady : Plan → Mapping → TaskSet → List CoreState → Type 0
 AllReady p m t cores = (i : ℕ) (c : CoreState) → slice_get cores i ≡ Some c → IsReady p m t c
@@ -34,19 +34,20 @@ pub record HasRun (p : Plan) (t : TaskSet) (cores now : List CoreState) (objects
 
 -- they ran, or there was no memory, and nothing has changed
 abbrev pub RunTogether : Plan → TaskSet → Changing → Together → Type 0
-RunTogether p t old (Ran new entries) = HasRun p t old.cores.items new.cores.items old.objects.items new.objects.items entries.items
-RunTogether p t old (Memory same) = (same.cores.items ≡ old.cores.items) × (same.objects.items ≡ old.objects.items)
+RunTogether p t old (Ran new entries) = HasRun p t old.cores.items new.cores.items old.objects.items new.objects.items entries.items × AreFitting new.cores.items new.awake.items
+RunTogether p t old (Memory same) = (same.cores.items ≡ old.cores.items) × (same.objects.items ≡ old.objects.items) × (same.awake ≡ old.awake)
 
 -- ---- how they are run
 
--- room for these cores, and what guides each
-pub record HasPlaces (of : List CoreState) (x : Places) : Type 0 where
-  pub guides : AreGuides of x.guides.items
-  pub lanes : (x.lanes.items ≡ []) × (length of ≤ vec_capacity x.lanes)
-  pub cores : (x.cores.items ≡ []) × (length of ≤ vec_capacity x.cores)
-  pub seats : (x.seats.items ≡ []) × (length of ≤ vec_capacity x.seats)
+-- room for so many cores
+pub record HasPlaces (count : ℕ) (x : Places) : Type 0 where
+  pub rooms : AreRooms count x.rooms.items
+  pub lanes : (x.lanes.items ≡ []) × (count ≤ vec_capacity x.lanes)
+  pub cores : (x.cores.items ≡ []) × (count ≤ vec_capacity x.cores)
+  pub awake : (x.awake.items ≡ []) × (count ≤ vec_capacity x.awake)
+  pub seats : (x.seats.items ≡ []) × (count ≤ vec_capacity x.seats)
 
 -- a round over these objects is open, each core has its seat, and no core has made a turn
 pub record HasBegun (p : Plan) (objects : List Object) (b : Begun) : Type 0 where
   pub opened : IsOpened p objects (length b.cores.items) 1024 b.round b.seats.items
-  pub places : HasPlaces b.cores.items b.places
+  pub places : HasPlaces (length b.cores.items) b.places

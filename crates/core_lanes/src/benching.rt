@@ -2,35 +2,42 @@
 
 ghost use Rattle.std.specs.Prelude.{◌≡◌, ◌≤◌, ◌<◌, ◌++◌, [], length, map};
 ghost use Rattle.std.specs.Vec.{vec_capacity};
-ghost use Rattle.core_lanes.specs.Guiding.{AreGuides};
+ghost use Rattle.core_lanes.specs.Guiding.{AreFitting, AreRooms};
 ghost use Rattle.core_lanes.specs.Lanes.{lanes_of, core_in, with_seat, seats_in};
 
-use crate::guided::{Guide, Guided};
+use crate::guided::Guided;
 use crate::lanes::Lane;
 use crate::stay::Stay;
-use core_turn::Core;
+use bus_semantics::Stamped;
+use core_turn::{Awake, Core};
 use cross_core_table::CoreSeat;
 
-/// A lane for each core, with its guide and the seat at the core's place.
+/// A lane for each core, with what of it may step, room for an entry and the seat, each at the core's place.
 pub(crate) fn seat_all(
     cores: Vec<Core>,
-    guides: Vec<Guide>,
+    awake: Vec<Awake>,
+    rooms: Vec<Vec<Stamped>>,
     seats: Vec<CoreSeat>,
     lanes: Vec<Lane>,
 ) -> Vec<Lane>
-    requires guides { AreGuides cores.items guides.items }
+    requires fit { AreFitting cores.items awake.items }
+    requires rooms { AreRooms (length cores.items) rooms.items }
     requires empty { lanes.items ≡ [] }
     requires space { length cores.items ≤ vec_capacity lanes }
     ensures { result.items ≡ lanes_of cores.items seats.items }
 {
     let mut lanes = lanes;
-    let mut guides = guides.into_iter();
+    let mut awake = awake.into_iter();
+    let mut rooms = rooms.into_iter();
     let mut seats = seats.into_iter();
     for core in cores {
-        let Some(guide) = guides.next() else {
+        let Some(flags) = awake.next() else {
             unreachable!()
         };
-        let core = Guided::of(core, guide);
+        let Some(room) = rooms.next() else {
+            unreachable!()
+        };
+        let core = Guided::of(core, flags, room);
         let seat = seats.next();
         lanes.push_reserved(Lane {
             core,
@@ -53,11 +60,18 @@ fn keep(seats: &mut Vec<CoreSeat>, seat: Option<CoreSeat>)
     }
 }
 
-/// The cores and the seats of these lanes, in their order.
-pub(crate) fn part_all(lanes: Vec<Lane>, cores: &mut Vec<Core>, seats: &mut Vec<CoreSeat>)
+/// The cores of these lanes, what of them may step, and the seats, in their order.
+pub(crate) fn part_all(
+    lanes: Vec<Lane>,
+    cores: &mut Vec<Core>,
+    awake: &mut Vec<Awake>,
+    seats: &mut Vec<CoreSeat>,
+)
     requires cores { (cores.old.items ≡ []) × (length lanes.items ≤ vec_capacity cores.old) }
+    requires awake { (awake.old.items ≡ []) × (length lanes.items ≤ vec_capacity awake.old) }
     requires seats { (seats.old.items ≡ []) × (length lanes.items ≤ vec_capacity seats.old) }
     ensures cores { cores.new.items ≡ map core_in lanes.items }
+    ensures fit { AreFitting cores.new.items awake.new.items }
     ensures seats { seats.new.items ≡ seats_in lanes.items }
 {
     for lane in lanes {
@@ -66,7 +80,9 @@ pub(crate) fn part_all(lanes: Vec<Lane>, cores: &mut Vec<Core>, seats: &mut Vec<
             seat,
             stay: _,
         } = lane;
-        cores.push_reserved(core.into_core());
+        let (core, flags) = core.into_parts();
+        cores.push_reserved(core);
+        awake.push_reserved(flags);
         keep(seats, seat);
     }
 }

@@ -1,16 +1,17 @@
 //! Cores that look first where an entry may have started something.
 
-ghost use Rattle.std.specs.Prelude.{◌≡◌, ◌<◌, false, IfOk, length};
+ghost use Rattle.std.specs.Prelude.{◌≡◌, ◌<◌, [], false, IfOk, length};
+ghost use Rattle.std.specs.Vec.{vec_capacity};
 ghost use Rattle.bus_semantics.specs.declared.script.Mapping.{Mapping};
 ghost use Rattle.bus_semantics.specs.Plan.{plan_of};
 ghost use Rattle.task_generator.specs.Promise.{AsksAsPlanned};
-ghost use Rattle.core_turn.specs.Awake.{looks_of_awake};
+ghost use Rattle.core_turn.specs.Awake.{Fits, looks_of_awake};
 ghost use Rattle.core_turn.specs.Cores.{looks_in};
 ghost use Rattle.core_turn.specs.Ready.{IsReady};
 ghost use Rattle.cross_core_table.specs.Logs.{plan_in};
 ghost use Rattle.core_lanes.specs.Rooms.{HasRoom};
 ghost use Rattle.core_lanes.specs.Benching.{IsTaken};
-ghost use Rattle.core_lanes.specs.Guiding.{IsGuide, AreGuides};
+ghost use Rattle.core_lanes.specs.Guiding.{IsGuide, AreRooms};
 ghost use Rattle.core_lanes.specs.Leaving.{IsEmptyTurn, looks_due};
 
 use crate::guesses::Guesses;
@@ -50,28 +51,15 @@ impl Model for Guided {
     ghost invariant = { λ g. IsGuide g.core g.guide };
 }
 
-/// A guide by which all of a core is awake.
-fn guide_of(alloc: Global, core: &Core) -> Result<Guide, AllocError>
-    ensures { IfOk result (IsGuide core.now) }
+/// Room for an entry, as each of so many guides has it. The only error is that there is no memory.
+pub(crate) fn rooms_of(alloc: Global, count: usize) -> Result<Vec<Vec<Stamped>>, AllocError>
+    ensures { IfOk result (λ rooms. AreRooms count rooms.items) }
 {
-    let awake = Awake::all(alloc, core)?;
-    let made = Vec::with_capacity(alloc, 1)?;
-    Ok(Guide {
-        awake,
-        made,
-        idle: false,
-    })
-}
-
-/// A guide for each of these cores, by which all of it is awake. The only error is that there is no memory.
-pub(crate) fn guides_of(alloc: Global, cores: &[Core]) -> Result<Vec<Guide>, AllocError>
-    ensures { IfOk result (λ guides. AreGuides cores.now guides.items) }
-{
-    let mut guides = Vec::new(alloc);
-    for core in cores {
-        guides.push(guide_of(alloc, core)?)?;
+    let mut rooms = Vec::new(alloc);
+    for _core in 0..count {
+        rooms.push(Vec::with_capacity(alloc, 1)?)?;
     }
-    Ok(guides)
+    Ok(rooms)
 }
 
 /// A core hears of what others did, and wakes what that may start. An idle core waits for it a while, if others are not idle.
@@ -177,19 +165,28 @@ fn turn_past_guide(
 }
 
 impl Guided {
-    /// A core and a guide that was made for it.
-    pub(crate) fn of(core: Core, guide: Guide) -> Guided
-        requires { IsGuide core guide }
+    /// A core with what of it may step, as far as it is known, and a list with room for an entry.
+    pub(crate) fn of(core: Core, awake: Awake, made: Vec<Stamped>) -> Guided
+        requires fits { Fits core.slots core.first awake }
+        requires room { (made.items ≡ []) × (0 < vec_capacity made) }
         ensures { result ≡ core }
     {
-        Guided { core, guide }
+        Guided {
+            core,
+            guide: Guide {
+                awake,
+                made,
+                idle: false,
+            },
+        }
     }
 
-    /// The core.
-    pub(crate) fn into_core(self) -> Core
-        ensures { result ≡ self }
+    /// The core, and what of it may step, as far as it is known.
+    pub(crate) fn into_parts(self) -> (Core, Awake)
+        ensures core { result.0 ≡ self }
+        ensures fits { Fits result.0.slots result.0.first result.1 }
     {
-        self.core
+        (self.core, self.guide.awake)
     }
 
     /// The core leaves the round: others count on no entry of it.

@@ -12,6 +12,7 @@ use Rattle.core_turn.specs.Cores.{CoreState, tables_of_core}
 use Rattle.core_turn.specs.Awake.{AwakeState, Fits, AreHeld}
 use Rattle.core_turn.specs.Lawful.{IsLawful}
 use Rattle.latches.proofs.Places.{Placed, here, there, placed}
+use Rattle.core_lanes.specs.Guiding.{AreFitting}
 use Rattle.core_lanes.specs.Together.{HasRun}
 use Rattle.core_runtime.specs.Common.{after, IsNode, GoesOn, Live, AllWatched, HaveSameTasks, AreSeated, AreBehind, AreStarters, AreWatched, IsWatch, tables_of}
 use Rattle.core_runtime.specs.Lives.{HaveTurned, IsSameLive}
@@ -67,6 +68,33 @@ task_count cores now same = sym (counted now) ∙ ap length same ∙ counted cor
 
 pub shaped : (p : Plan) (t : TaskSet) (objects : List Object) (cores : List CoreState) (awake : List AwakeState) → AreWatched p t objects cores awake → AreShaped cores awake
 shaped p t objects cores awake watched = record { count = watched.count; each = λ i c a at is. (watched.each i c a at is).fits }
+
+-- so each of them fits, in their order
+pub fitting : (cores : List CoreState) (awake : List AwakeState) → AreShaped cores awake → AreFitting cores awake
+fitting [] [] shape = tt
+fitting [] (a ∷ awake) shape = let count = shape.count in absurd (omega (arith, count))
+fitting (c ∷ cores) [] shape = let count = shape.count in absurd (omega (arith, count))
+fitting (c ∷ cores) (a ∷ awake) shape =
+    let count = shape.count in
+    (shape.each 0 c a refl refl, fitting cores awake (record { count = omega (arith, count); each = λ i d b at is. shape.each (suc i) d b at is }))
+
+pub shaped_by : (cores : List CoreState) (awake : List AwakeState) → AreFitting cores awake → AreShaped cores awake
+shaped_by cores awake fit = record { count = counted cores awake fit; each = λ i c a at is. found cores awake fit i c a at is }
+  where
+    counted : (cores : List CoreState) (awake : List AwakeState) → AreFitting cores awake → length awake ≡ length cores
+    counted [] [] fit = refl
+    counted [] (a ∷ awake) fit = absurd fit
+    counted (c ∷ cores) [] fit = absurd fit
+    counted (c ∷ cores) (a ∷ awake) fit = ap suc (counted cores awake fit.1)
+
+    found : (cores : List CoreState) (awake : List AwakeState) → AreFitting cores awake → (i : ℕ) (c : CoreState) (a : AwakeState) → slice_get cores i ≡ Some c → slice_get awake i ≡ Some a → Fits c.slots c.first a
+    found [] awake fit i c a at is = absurd (cc at)
+    found (x ∷ cores) [] fit i c a at is = absurd fit
+    found (x ∷ cores) (y ∷ awake) fit zero c a at is =
+        let core : x ≡ c = cc in
+        let flags : y ≡ a = cc in
+        subst (λ (k : CoreState). Fits k.slots k.first a) core (subst (λ (b : AwakeState). Fits x.slots x.first b) flags fit.0)
+    found (x ∷ cores) (y ∷ awake) fit (suc i) c a at is = found cores awake fit.1 i c a at is
 
 -- all of a core
 pub record IsRoused (c : CoreState) (a : AwakeState) : Type 0 where

@@ -21,7 +21,8 @@
 //!
 //! **Why is all awake after a round of several cores?** What slept before it may be due by what another core made, and a seat is
 //! not told what others changed. So all flags are set again, in place and without memory; the next turns put to sleep what is
-//! held.
+//! held. In the round itself these flags guide the cores (`core_lanes`): at its begin what sleeps is held, and so is not looked at, and
+//! what turns make of them is a guess.
 //!
 //! **What does an entry wake?** Those of the events that the changed object tells which sleep and may start now; the node has a
 //! list of the places of each event on the cores. What an object tells are the events that its last write, publication or tick

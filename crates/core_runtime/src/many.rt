@@ -11,6 +11,7 @@ ghost use Rattle.core_runtime.specs.Watching.{IsWatch};
 use crate::Memory;
 use crate::live::Live;
 use crate::node::Node;
+use crate::watch::{Watch, rouse_all};
 use bus_semantics::{BusPlan, Stamped};
 use core_lanes::{Changing, Guesses, Together, run_together};
 use rte_text::Gate;
@@ -75,13 +76,19 @@ fn turn_many<R: Threads + Sync, G: Gate>(
     let Live {
         cores,
         objects,
-        mut watch,
+        watch,
         entries,
         spare,
     } = live;
+    let Watch {
+        awake,
+        seats,
+        starters,
+    } = watch;
     let changing = Changing {
         cores,
         objects,
+        awake,
         spare,
     };
     match run_together(rt, alloc, p, t, changing, guesses, gate) {
@@ -89,9 +96,16 @@ fn turn_many<R: Threads + Sync, G: Gate>(
             let Changing {
                 cores,
                 objects,
+                mut awake,
                 mut spare,
             } = changing;
-            watch.wake_all(cores.as_slice());
+            // What of them sleeps is a guess now.
+            rouse_all(&mut awake, cores.as_slice());
+            let watch = Watch {
+                awake,
+                seats,
+                starters,
+            };
             let (entries, free) = exchanged(entries, made);
             spare.entries = free;
             let live = Live {
@@ -107,8 +121,14 @@ fn turn_many<R: Threads + Sync, G: Gate>(
             let Changing {
                 cores,
                 objects,
+                awake,
                 spare,
             } = changing;
+            let watch = Watch {
+                awake,
+                seats,
+                starters,
+            };
             let live = Live {
                 cores,
                 objects,

@@ -37,7 +37,7 @@ fn awake_of(alloc: Global, cores: &[Core]) -> Result<Vec<Awake>, Memory>
 }
 
 /// All that these cores have is awake. It was made for cores with the same tasks.
-fn rouse_all(awake: &mut Vec<Awake>, cores: &[Core])
+pub(crate) fn rouse_all(awake: &mut Vec<Awake>, cores: &[Core])
     requires { (before : List CoreState) × AreShaped before awake.old.items × HaveSameTasks before cores.now }
     ensures { AllWatched cores.now awake.new.items }
 {

@@ -1,9 +1,12 @@
-use Rattle.std.proofs.Common.{◌≡◌, ◌++◌, ◌∷◌, [], ◌∙◌, List, length, length-append, append_assoc, sym, ap, arith}
+use Rattle.std.proofs.Common.{◌≡◌, ◌++◌, ◌∷◌, [], ◌∙◌, List, length, length-append, append_assoc, map, sym, ap, subst, arith}
 use Rattle.bus_semantics.specs.Common.{map-append, into_iter_items}
 use Rattle.cross_core_table.specs.declared.seats.CoreSeat.{CoreSeat}
+use Rattle.core_turn.specs.Awake.{AwakeState}
 use Rattle.core_turn.specs.Cores.{CoreState}
+use Rattle.core_lanes.specs.Guiding.{AreFitting}
 use Rattle.core_lanes.specs.declared.lanes.Lane.{Lane}
 use Rattle.core_lanes.specs.Lanes.{core_in, with_seat}
+use Rattle.core_lanes.proofs.Guides.{fitting_more}
 use Rattle.core_lanes.proofs.Lists.{seats_within, seats_more}
 use Rattle.core_lanes.proofs.benching.part_all.Goals as goal
 
@@ -28,8 +31,14 @@ loop-lane-preserved c =
     record {
       all = append_assoc at.yielded (x ∷ []) rest ∙ given;
       left = let short = ap (λ (l : List Lane). length l) steps in omega arith;
-      cores = c.push_reserved.ensures.items ∙ ap (λ (k : CoreState). at.cores.items ++ k ∷ []) c.into_core.ensures ∙ (ap (λ (cs : List CoreState). cs ++ x.core ∷ []) at.invariant.cores ∙ sym (map-append core_in at.yielded (x ∷ [])));
+      cores = c.push_reserved.ensures.items ∙ ap (λ (k : CoreState). at.cores.items ++ k ∷ []) c.into_parts-core.ensures.core ∙ (ap (λ (cs : List CoreState). cs ++ x.core ∷ []) at.invariant.cores ∙ sym (map-append core_in at.yielded (x ∷ [])));
       seats = c.keep.ensures.items ∙ (ap (λ (ss : List CoreSeat). ss ++ with_seat x.seat []) at.invariant.seats ∙ sym (seats_more at.yielded x));
+      fit = subst (λ (flags : List AwakeState). AreFitting (map core_in (at.yielded ++ x ∷ [])) flags) (sym c.push_reserved-in-loop-lane.ensures.items)
+          (subst (λ (cs : List CoreState). AreFitting cs (at.awake.items ++ c.into_parts-core.result.1 ∷ [])) (ap (λ (k : CoreState). map core_in at.yielded ++ k ∷ []) c.into_parts-core.ensures.core ∙ sym (map-append core_in at.yielded (x ∷ [])))
+          (fitting_more (map core_in at.yielded) at.awake.items c.into_parts-core.result.0 c.into_parts-core.result.1 at.invariant.fit c.into_parts-core.ensures.fits));
+      awake_count = let one = ap (λ (flags : List AwakeState). length flags) c.push_reserved-in-loop-lane.ensures.items in
+          omega (arith, one, length-append at.awake.items (c.into_parts-core.result.1 ∷ []), length-append at.yielded (x ∷ []), at.invariant.awake_count);
+      awake_space = c.push_reserved-in-loop-lane.ensures.capacity ∙ at.invariant.awake_space;
       cores_space = c.push_reserved.ensures.capacity ∙ at.invariant.cores_space;
       seats_space = c.keep.ensures.capacity ∙ at.invariant.seats_space;
     }

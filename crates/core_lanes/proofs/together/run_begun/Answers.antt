@@ -34,6 +34,15 @@ part_all-requires-clause-cores g c =
     let room = c.requires.begun.1.places.cores.1 in
     (c.requires.begun.1.places.cores.0, omega (arith, ap (λ (ls : List Lane). length ls) back, c.go_all.ensures.count, count, room))
 
+pub part_all-requires-clause-awake : goal.part_all-requires-clause-awake
+part_all-requires-clause-awake g c =
+    let is : c.as_mut_slice.result.now ≡ lanes_of c.args.begun.cores.items c.args.begun.seats.items = c.as_mut_slice.ensures.value ∙ c.seat_all-lanes.ensures in
+    let count : length c.as_mut_slice.result.now ≡ length c.args.begun.cores.items = ap (λ (ls : List Lane). length ls) is ∙ lanes_count c.args.begun.cores.items c.args.begun.seats.items in
+    let same : length c.go_all.new.lanes ≡ length c.seat_all-lanes.result.items = c.go_all.ensures.count ∙ ap (λ (ls : List Lane). length ls) c.as_mut_slice.ensures.value in
+    let back = written_back c.seat_all-lanes.result.items c.go_all.new.lanes c.seat_all-lanes.result.len same (omega arith) in
+    let room = c.requires.begun.1.places.awake.1 in
+    (c.requires.begun.1.places.awake.0, omega (arith, ap (λ (ls : List Lane). length ls) back, c.go_all.ensures.count, count, room))
+
 pub part_all-requires-clause-seats : goal.part_all-requires-clause-seats
 part_all-requires-clause-seats g c =
     let is : c.as_mut_slice.result.now ≡ lanes_of c.args.begun.cores.items c.args.begun.seats.items = c.as_mut_slice.ensures.value ∙ c.seat_all-lanes.ensures in
@@ -54,8 +63,8 @@ close-closed-requires g c =
           (seats_return (plan_of c.args.p.now) c.args.t.now c.requires.begun.0 c.args.begun.round c.args.begun.cores.items c.args.begun.seats.items c.go_all.new.lanes c.requires.begun.1.opened went);
     }
 
-pub returns : goal.returns
-returns g c = λ objects begun planned.
+pub returns-clause-run : goal.returns-clause-run
+returns-clause-run g c = λ objects begun planned.
     let is : c.as_mut_slice.result.now ≡ lanes_of c.args.begun.cores.items c.args.begun.seats.items = c.as_mut_slice.ensures.value ∙ c.seat_all-lanes.ensures in
     let same : length c.go_all.new.lanes ≡ length c.seat_all-lanes.result.items = c.go_all.ensures.count ∙ ap (λ (ls : List Lane). length ls) c.as_mut_slice.ensures.value in
     let back = written_back c.seat_all-lanes.result.items c.go_all.new.lanes c.seat_all-lanes.result.len same (omega arith) in
