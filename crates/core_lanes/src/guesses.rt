@@ -9,6 +9,7 @@ use bus_semantics::{BusPlan, Deed, Stamped};
 use core_turn::{Awake, Core};
 use port_objects::touched_object;
 use std::alloc::{AllocError, Global};
+use std::sync::atomic::{AtomicU64, Ordering};
 
 /// A place of an event in a task of a core, or a mode machine of core 0.
 #[derive(Clone, Copy)]
@@ -24,18 +25,30 @@ pub struct Spot {
 /// What an object may start.
 #[derive(Drop)]
 struct Starts {
-    /// For each core where the events stand that an entry at the object may start, and those of callers that wait for its answer (SWS_RTE:
-    /// runnable activation).
+    /// For each core where the events stand that an entry at the object may start (SWS_RTE: runnable activation).
     spots: Vec<Vec<Spot>>,
     /// Where the mode machine stands that the object is (SWS_RTE: mode switch procedure).
     machine: Option<Spot>,
+    /// The point that the server served last which the object is, or none of the plan's.
+    served: AtomicU64,
 }
 
-/// For each object, by number, what an entry at it may start, and for each event where it stands. A guess: it spares a core looks, and no
-/// entry rests on it. Cores that run at the same time tell one another of entries that may start something on another core.
+/// What a call point may start.
+#[derive(Drop)]
+struct Caller {
+    /// The server to which the point is joined.
+    object: Option<usize>,
+    /// Where the events stand that start the caller, which waits for the answer, and those that a return starts (SWS_RTE: Rte_Call).
+    spots: Vec<Spot>,
+}
+
+/// For each object and for each call point, by number, what an entry there may start, and for each event where it stands. A guess: it
+/// spares a core looks, and no entry rests on it. Cores that run at the same time tell one another of entries that may start something
+/// on another core: their news are of objects and, behind these, of points.
 #[derive(Drop)]
 pub struct Guesses {
     objects: Vec<Starts>,
+    callers: Vec<Caller>,
     events: Vec<Option<Spot>>,
     pub(crate) news: News,
 }
@@ -49,11 +62,12 @@ fn no_starts(alloc: Global, cores: usize) -> Result<Starts, AllocError> {
     Ok(Starts {
         spots,
         machine: None,
+        served: AtomicU64::new(u64::MAX),
     })
 }
 
-/// Whether an entry of this deed may start events of any receiver, server, caller or user of modes. Each other entry lets at most one
-/// event start again, that of the activation which it ends.
+/// Whether an entry of this deed may start events of any receiver, server or user of modes. Of the others a return is heard at one point,
+/// and each other entry lets at most one event start again, that of the activation which it ends.
 fn is_heard(deed: &Deed) -> bool {
     match deed {
         Deed::Write { .. }
@@ -61,7 +75,6 @@ fn is_heard(deed: &Deed) -> bool {
         | Deed::PublishAll { .. }
         | Deed::Send { .. }
         | Deed::Ask { .. }
-        | Deed::Return { .. }
         | Deed::Phase(_) => true,
         _ => false,
     }
@@ -104,6 +117,16 @@ fn wake_own(core: &Core, number: u32, spot: Option<Spot>, awake: &mut Awake)
     }
 }
 
+/// Wakes what stands at each of these spots that are of the core of this number.
+fn wake_those(core: &Core, number: u32, spots: &[Spot], awake: &mut Awake)
+    requires { Fits core.now.slots core.now.first awake.old }
+    ensures { Fits core.now.slots core.now.first awake.new }
+{
+    for spot in spots {
+        wake_own(core, number, Some(*spot), awake);
+    }
+}
+
 impl Starts {
     /// The spots on a core.
     fn on(&self, core: usize) -> &[Spot] {
@@ -127,16 +150,22 @@ impl Starts {
 }
 
 impl Guesses {
-    /// None for so many cores and objects. The only error is that there is no memory.
-    pub fn none(alloc: Global, cores: usize, objects: usize) -> Result<Guesses, AllocError> {
+    /// None for so many cores, objects and call points. The only error is that there is no memory.
+    pub fn none(
+        alloc: Global,
+        cores: usize,
+        objects: usize,
+        points: usize,
+    ) -> Result<Guesses, AllocError> {
         let mut lists = Vec::new(alloc);
         for _object in 0..objects {
             lists.push(no_starts(alloc, cores)?)?;
         }
         Ok(Guesses {
             objects: lists,
+            callers: Vec::new(alloc),
             events: Vec::new(alloc),
-            news: News::none(alloc, cores, objects)?,
+            news: News::none(alloc, cores, objects.saturating_add(points))?,
         })
     }
 
@@ -146,6 +175,24 @@ impl Guesses {
             if let Some(spots) = starts.spots.get_mut(spot.core) {
                 spots.push(spot)?;
             }
+        }
+        Ok(())
+    }
+
+    /// The next call point, in the order of their numbers, is joined to the server that is this object, if it is joined. The only error is that
+    /// there is no memory.
+    pub fn place_point(&mut self, alloc: Global, object: Option<usize>) -> Result<(), AllocError> {
+        self.callers.push(Caller {
+            object,
+            spots: Vec::new(alloc),
+        })?;
+        Ok(())
+    }
+
+    /// A return at the point may start what stands at the spot. The only error is that there is no memory.
+    pub fn add_at_point(&mut self, point: usize, spot: Spot) -> Result<(), AllocError> {
+        if let Some(caller) = self.callers.get_mut(point) {
+            caller.spots.push(spot)?;
         }
         Ok(())
     }
@@ -161,6 +208,30 @@ impl Guesses {
     pub fn place_event(&mut self, spot: Option<Spot>) -> Result<(), AllocError> {
         self.events.push(spot)?;
         Ok(())
+    }
+
+    /// Hears of an entry: if it starts a server, at which point the next return will be.
+    pub fn note(&self, made: &Stamped) {
+        if let Deed::Start {
+            point: Some(point),
+            ..
+        } = &made.entry.deed
+        {
+            if let Some(starts) = self.server_of(*point) {
+                starts.served.store(*point as u64, Ordering::SeqCst);
+            }
+        }
+    }
+
+    /// The server to which a point is joined.
+    fn server_of(&self, point: u32) -> Option<&Starts> {
+        match self.callers.get(point as usize) {
+            Some(caller) => match caller.object {
+                Some(object) => self.objects.get(object),
+                None => None,
+            },
+            None => None,
+        }
     }
 
     /// Where the event of this number stands.
@@ -205,6 +276,33 @@ impl Guesses {
         }
         wake_own(core, number, starts.machine, awake);
         self.tell_others(number, starts, deed, object);
+        self.note(made);
+        if let Deed::Return { .. } = deed {
+            let point = starts.served.load(Ordering::SeqCst);
+            self.wake_caller(number, core, point, awake);
+        }
+    }
+
+    /// Wakes what a return at this point may start on the core of this number, and tells other cores of it.
+    fn wake_caller(&self, number: u32, core: &Core, point: u64, awake: &mut Awake)
+        requires { Fits core.now.slots core.now.first awake.old }
+        ensures { Fits core.now.slots core.now.first awake.new }
+    {
+        if let Some(caller) = self.callers.get(point as usize) {
+            wake_those(core, number, caller.spots.as_slice(), awake);
+            self.tell_of_point(number, caller.spots.as_slice(), point);
+        }
+    }
+
+    /// Tells each core but this one of a return at a point, if one of these spots stands there.
+    fn tell_of_point(&self, number: u32, spots: &[Spot], point: u64) {
+        let behind = (self.objects.len() as u64).saturating_add(point);
+        let news = behind.min(u32::MAX as u64) as u32;
+        for spot in spots {
+            if spot.core != number as usize {
+                self.news.tell(spot.core, news);
+            }
+        }
     }
 
     /// Tells each core but this one of an entry at an object, if it may start something there.
@@ -228,15 +326,33 @@ impl Guesses {
         }
     }
 
-    /// Wakes what may start by each object of a word of news, of which this is the first.
+    /// Wakes what may start by these news: those of an object, or behind all objects of a point.
+    fn wake_by(&self, number: u32, core: &Core, news: u32, awake: &mut Awake)
+        requires { Fits core.now.slots core.now.first awake.old }
+        ensures { Fits core.now.slots core.now.first awake.new }
+    {
+        let objects = self.objects.len();
+        let at = news as usize;
+        if at < objects {
+            self.wake_object(number, core, news, awake);
+        } else if let Some(caller) = self.callers.get(at - objects) {
+            wake_those(core, number, caller.spots.as_slice(), awake);
+        }
+    }
+
+    /// Wakes what may start by each of a word of news, of which this is the first.
     fn wake_objects(&self, number: u32, core: &Core, objects: u64, first: u32, awake: &mut Awake)
         requires { Fits core.now.slots core.now.first awake.old }
         ensures { Fits core.now.slots core.now.first awake.new }
     {
-        for place in 0..64u32 {
-            if (objects >> place) & 1 == 1 {
-                self.wake_object(number, core, first.saturating_add(place), awake);
+        let mut left = objects;
+        for _place in 0..64u32 {
+            if left == 0 {
+                return;
             }
+            let place = left.trailing_zeros();
+            self.wake_by(number, core, first.saturating_add(place), awake);
+            left &= left - 1;
         }
     }
 

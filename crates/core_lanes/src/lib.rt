@@ -19,17 +19,19 @@
 //! **Why does all growth come before the first turn?** Room is taken for the entries of the round, in which a serial pass has its
 //! own too; then for lanes and seats; then the table is opened with a list for each seat. If one of these is refused, no core has
 //! made a turn: the node is as it was, and the same call may be made again. Within a round, a core that has no memory would have
-//! to take back what others saw. What guides a core's looks is made then too. After it nothing of the round is passed an
+//! to take back what others saw. What guides a core's looks is the caller's, and is not made anew. After it nothing of the round is passed an
 //! allocator: `run_begun`, which makes the turns and closes the round, and all that it calls. If the memory for any of this is
 //! refused, also that for a list that would only spare a copy, `run_round` answers so.
 //!
 //! **Where does a core on a thread look?** Where its own entries may have started something: each object has a list of the places
-//! of events on each core that an entry at it may start, with those of callers that wait for its answer and of the mode machine
-//! that it is; a Leave wakes the first that waits at the area, and an End the event of its activation. A seat is not told what
-//! others change. So cores tell one another, beside the table: who makes an entry at an object that may start something on another
-//! core sets the object's bit among that core's news, and this core looks there. All this is a guess, and no claim rests on it. A
-//! core looks at all that it has in its first turns and, since a guess may leave something out, in the 33rd turn in a row without
-//! an entry. What the guesses leave out is found at the latest in the serial pass and the round after it.
+//! of events on each core that an entry at it may start, and of the mode machine that it is; each call point has one of those of
+//! its caller and of the events that a return starts, and the object of a server keeps which point it served last, so that a
+//! Return wakes one caller, however many there are; a Leave wakes the first that waits at the area, and an End the event of its
+//! activation. A seat is not told what others change. So cores tell one another, beside the table: who makes an entry at an object
+//! that may start something on another core sets the object's bit, or the point's, among that core's news, and this core looks
+//! there. All this is a guess, and no claim rests on it. What is awake when a round begins the caller says (`Changing`). Since a
+//! guess may leave something out, a core looks at all that it has in the 33rd turn in a row without an entry. What the guesses
+//! leave out is found at the latest in the serial pass and the round after it.
 //!
 //! **Does a core wait for others?** A turn of a core whose last turn made no entry begins with looks for news, up to 16 times 256,
 //! each one atomic load. They end at once if there is news, or if nobody else may make an entry: each core is either idle or

@@ -20,28 +20,24 @@ fn machine_object(p: &BusPlan, machine: usize) -> usize {
     first.saturating_add(machine)
 }
 
-/// The object of the server to which the point of this number is joined, if it is joined to one.
-fn called_object(p: &BusPlan, point: u32) -> Option<usize> {
-    match p.points.items().get(point as usize) {
-        Some(point) => match point.server {
-            Some(server) => Some(server_object(p, server)),
-            None => None,
-        },
+/// The object of the server to which a point is joined, if it is joined to one.
+fn called_object(p: &BusPlan, point: &PointPlan) -> Option<usize> {
+    match point.server {
+        Some(server) => Some(server_object(p, server)),
         None => None,
     }
 }
 
 /// The object at which another core may make an entry that starts an event of this kind. A tick comes before a round, and an InitEvent at the
-/// start, so no core tells of them.
+/// start, so no core tells of them. An event that a return starts is heard of by its point.
 fn starting_object(p: &BusPlan, kind: &EventKind) -> Option<usize> {
     match kind {
-        EventKind::Timing(_) | EventKind::Init => None,
+        EventKind::Timing(_) | EventKind::Init | EventKind::Returns(_) => None,
         EventKind::DataReceived(element) => match p.bundle_of(*element) {
             Some(bundle) => Some(bundle as usize),
             None => None,
         },
         EventKind::Invoked(server) => Some(server_object(p, *server)),
-        EventKind::Returns(point) => called_object(p, *point),
         EventKind::ModeSwitch { machine, .. } | EventKind::Ack(machine) => {
             Some(machine_object(p, *machine as usize))
         }
@@ -65,7 +61,16 @@ fn add_event(guesses: &mut Guesses, object: usize, seats: &[Seat]) -> Result<(),
     Ok(())
 }
 
-/// Adds the places of each event to those of the object that starts it, and of the machine in whose modes it is disabled.
+/// Adds the places of an event to those of a point.
+fn add_at_point(guesses: &mut Guesses, point: usize, seats: &[Seat]) -> Result<(), Memory> {
+    for seat in seats {
+        guesses.add_at_point(point, spot_of(seat))?;
+    }
+    Ok(())
+}
+
+/// Adds the places of each event to those of the object that starts it, or of the point whose return does, and of the machine in whose modes it
+/// is disabled.
 fn add_starts(guesses: &mut Guesses, p: &BusPlan, w: &Watch) -> Result<(), Memory> {
     let events = p.events.items();
     for number in 0..events.len().min(w.seats.len()) {
@@ -74,6 +79,9 @@ fn add_starts(guesses: &mut Guesses, p: &BusPlan, w: &Watch) -> Result<(), Memor
         guesses.place_event(seats.first().map(spot_of))?;
         if let Some(object) = starting_object(p, &event.kind) {
             add_event(guesses, object, seats)?;
+        }
+        if let EventKind::Returns(point) = &event.kind {
+            add_at_point(guesses, *point as usize, seats)?;
         }
         if let Some(disabling) = &event.disabled {
             add_event(
@@ -86,45 +94,44 @@ fn add_starts(guesses: &mut Guesses, p: &BusPlan, w: &Watch) -> Result<(), Memor
     Ok(())
 }
 
-/// Adds the places of each of these events to those of an object.
+/// Adds the places of each of these events to those of a point.
 fn add_events(
     guesses: &mut Guesses,
-    object: usize,
+    point: usize,
     seats: &[Vec<Seat>],
     events: &[u32],
 ) -> Result<(), Memory> {
     for event in events {
         if let Some(seats) = seats.get(*event as usize) {
-            add_event(guesses, object, seats.as_slice())?;
+            add_at_point(guesses, point, seats.as_slice())?;
         }
     }
     Ok(())
 }
 
-/// Adds to the object of the server to which a point is joined the events that start the caller (SWS_RTE: Rte_Call).
+/// Adds to a point, whose number is this, the events that start the caller (SWS_RTE: Rte_Call).
 fn add_caller(
     guesses: &mut Guesses,
-    p: &BusPlan,
+    number: usize,
     point: &PointPlan,
     w: &Watch,
 ) -> Result<(), Memory> {
-    let Some(server) = point.server else {
-        return Ok(());
-    };
     let Some(caller) = point.runnable else {
         return Ok(());
     };
-    let object = server_object(p, server);
     match w.starters.get(caller as usize) {
-        Some(events) => add_events(guesses, object, w.seats.as_slice(), events.as_slice()),
+        Some(events) => add_events(guesses, number, w.seats.as_slice(), events.as_slice()),
         None => Ok(()),
     }
 }
 
-/// Adds so the callers at all points.
-fn add_callers(guesses: &mut Guesses, p: &BusPlan, w: &Watch) -> Result<(), Memory> {
-    for point in p.points.items() {
-        add_caller(guesses, p, point, w)?;
+/// Adds so the callers at all points, each of which is told where its server is.
+fn add_callers(alloc: Global, guesses: &mut Guesses, p: &BusPlan, w: &Watch) -> Result<(), Memory> {
+    let points = p.points.items();
+    for number in 0..points.len() {
+        let point = &points[number];
+        guesses.place_point(alloc, called_object(p, point))?;
+        add_caller(guesses, number, point, w)?;
     }
     Ok(())
 }
@@ -143,17 +150,23 @@ fn set_machines(guesses: &mut Guesses, p: &BusPlan, slots: usize) {
 }
 
 /// Adds the places of all that may start, of those who call, and of the mode machines.
-fn add_all(guesses: &mut Guesses, p: &BusPlan, cores: &[Core], w: &Watch) -> Result<(), Memory> {
+fn add_all(
+    alloc: Global,
+    guesses: &mut Guesses,
+    p: &BusPlan,
+    cores: &[Core],
+    w: &Watch,
+) -> Result<(), Memory> {
+    add_callers(alloc, guesses, p, w)?;
     add_starts(guesses, p, w)?;
-    add_callers(guesses, p, w)?;
     if let Some(first) = cores.first() {
         set_machines(guesses, p, first.slots());
     }
     Ok(())
 }
 
-/// For each object the places of the events that an entry at the object may start, of the callers that may hear of it, and of the mode
-/// machine that it is; none for a single core, whose turns are watched. The only error is that there is no memory.
+/// For each object the places of the events that an entry at the object may start, and of the mode machine that it is, and for each call
+/// point those of the caller and of the events that a return starts; none for a single core, whose turns are watched. The only error is that there is no memory.
 pub(crate) fn guesses_of(
     alloc: Global,
     p: &BusPlan,
@@ -161,10 +174,11 @@ pub(crate) fn guesses_of(
     w: &Watch,
 ) -> Result<Guesses, Memory> {
     if cores.len() == 1 {
-        return Guesses::none(alloc, 0, 0);
+        return Guesses::none(alloc, 0, 0, 0);
     }
-    let mut guesses = Guesses::none(alloc, cores.len(), p.objects as usize)?;
-    match add_all(&mut guesses, p, cores, w) {
+    let points = p.points.items().len();
+    let mut guesses = Guesses::none(alloc, cores.len(), p.objects as usize, points)?;
+    match add_all(alloc, &mut guesses, p, cores, w) {
         Ok(()) => Ok(guesses),
         Err(memory) => {
             drop(guesses);

@@ -10,6 +10,8 @@ ghost use Rattle.core_runtime.specs.Turns.{NothingMayCome, EachTakesOne};
 use crate::live::Live;
 use crate::node::Node;
 use crate::round_state::Round;
+use bus_semantics::Stamped;
+use core_lanes::Guesses;
 use core_turn::{nothing_now_is_rest_of_the_core, resting_cores_are_at_rest};
 use no_stall::no_history_stalls;
 use std::mem;
@@ -27,6 +29,13 @@ impl<'a> Round<'a> {
         for number in 0..self.cores.len() {
             self.step(number);
         }
+    }
+}
+
+/// Cores of later rounds hear of these entries as far as they have to.
+fn tell_all(guesses: &Guesses, entries: &[Stamped]) {
+    for made in entries {
+        guesses.note(made);
     }
 }
 
@@ -61,4 +70,5 @@ pub fn serial_pass(n: &mut Node)
     let mut round = Round::new(&n.plan, &n.bodies, live, room);
     round.give_turns();
     n.live = round.into_live();
+    tell_all(&n.guesses, n.live.entries.as_slice());
 }
