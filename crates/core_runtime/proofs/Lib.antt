@@ -6,6 +6,7 @@ pub mod Ending
 pub mod SameNodes
 pub mod Outside
 pub mod Watched
+pub mod Asleep
 pub mod Wakes
 pub mod Areas
 pub mod Behind

@@ -9,7 +9,7 @@ use Rattle.task_slots.specs.declared.slot.Slot.TheVariants as slot
 use Rattle.core_turn.specs.Cores.{CoreState}
 use Rattle.task_slots.specs.Slots.{Table, of_machine, table_of, events_of_slot}
 use Rattle.task_slots.specs.Waiting.{HearsAt}
-use Rattle.core_turn.specs.Awake.{AwakeState, Fits, StartsHeld, WaitersHeld}
+use Rattle.core_turn.specs.Awake.{AwakeState, Fits, IsOver, StartsHeld, WaitersHeld}
 use Rattle.core_runtime.specs.declared.seats.Seat.{Seat}
 use Rattle.core_runtime.specs.declared.watch.Watch.{Watch}
 
@@ -107,6 +107,10 @@ pub record IsWatch (p : Plan) (t : TaskSet) (objects : List Object) (touched : O
   pub seated : AreSeated (tables_of cores) w.seats.items
   pub behind : AreBehind p (owners_of cores)
   pub starters : AreStarters p w.starters.items
+
+-- no start by the event at a seat may come
+abbrev pub IsOverAt : Plan → List Object → List CoreState → Seat → Type 0
+IsOverAt p objects cores s = (c : CoreState) → slice_get cores s.core ≡ Some c → IsOver p objects c.slots s.slot s.place
 
 -- over all objects the cores are watched, if all is awake
 abbrev pub AllWatched : List CoreState → List AwakeState → Type 0

@@ -60,6 +60,7 @@ mod many;
 mod node;
 mod parts;
 mod pass;
+mod resting;
 mod round;
 mod round_state;
 mod seats;

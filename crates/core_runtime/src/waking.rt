@@ -10,6 +10,7 @@ ghost use Rattle.core_runtime.specs.Watching.{AreAnswered, AreRoused, AreSeated,
 
 use crate::callers::wake_caller;
 use crate::machines::wake_machine;
+use crate::resting::rest_started;
 use crate::seats::Seat;
 use crate::waiting::wake_waiting;
 use crate::watch::Watch;
@@ -93,7 +94,8 @@ fn wake_starts(deed: &Deed, touched: Option<u32>, objects: &[Object], w: &mut Wa
 }
 
 /// Wakes what an entry, after which the objects are these, may make come: the next phase of the machine that it touches, the Answer of
-/// the caller to whose point it returned, starts, and after a Leave those who may enter the area.
+/// the caller to whose point it returned, starts, and after a Leave those who may enter the area. The event of a start that may not come
+/// again sleeps.
 /// `event` is the one that started the activation, for an admission and an end that touch an object.
 pub(crate) fn wake_after(
     p: &BusPlan,
@@ -112,6 +114,7 @@ pub(crate) fn wake_after(
     wake_caller(p, touched, objects, w);
     wake_starts(&entry.deed, touched, objects, w);
     wake_waiting(&entry.deed, touched, &mut w.awake);
+    rest_started(&entry.deed, touched, objects, w);
 }
 
 /// Wakes what a tick of the clock, which is the object of this number and after which the objects are these, made due (SWS_RTE:

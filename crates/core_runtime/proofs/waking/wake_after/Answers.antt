@@ -29,6 +29,15 @@ wake_waiting-requires c =
     let woken = are_then c.args.w.now.awake.items c.wake_caller.new.w.awake.items c.wake_starts.new.w.awake.items first c.wake_starts.ensures.woken in
     record { even = woken_even (plan_of c.args.p.now) r.0 r.2 r.1 c.args.w.now.awake.items c.wake_starts.new.w.awake.items r.3 woken }
 
+pub rest_started-requires : goal.rest_started-requires
+rest_started-requires c =
+    let r = c.requires.watched in
+    let p = plan_of c.args.p.now in
+    let first = are_then c.args.w.now.awake.items c.wake_machine.new.awake.items c.wake_caller.new.w.awake.items c.wake_machine.ensures.woken c.wake_caller.ensures.woken in
+    let woken = are_then c.args.w.now.awake.items c.wake_caller.new.w.awake.items c.wake_starts.new.w.awake.items first c.wake_starts.ensures.woken in
+    let watched = c.wake_waiting.ensures.starts p r.0 r.2 r.1 (watched_still p r.0 r.2 r.1 c.args.w.now.awake.items c.wake_starts.new.w.awake.items woken r.3) in
+    record { there = seats_there p r.0 r.2 r.1 c.wake_waiting.new.awake.items c.wake_starts.new.w.seats.items watched (subst (λ (v : _). AreSeated (tables_of r.1) v.items) (sym (c.wake_starts.ensures.seats ∙ c.wake_caller.ensures.seats)) r.4) }
+
 pub returns : goal.returns
 returns c = λ t cores before after watch.
     let p = plan_of c.args.p.now in
@@ -43,10 +52,10 @@ returns c = λ t cores before after watch.
     let watched = watched_still p t before cores old next first watch.awake in
     let woken = are_then old next c.wake_starts.new.w.awake.items first c.wake_starts.ensures.woken in
     let seated = subst (λ (v : _). AreSeated (tables_of cores) v.items) (sym c.wake_caller.ensures.seats) watch.seated in
-    record {
+    c.rest_started.ensures p note t cores refl touching (record {
       awake = c.wake_waiting.ensures.starts p t c.args.objects.now cores (c.wake_starts.ensures.starts p note t cores before refl touching after roused answered seated watched);
       waiting = c.wake_waiting.ensures.waiting p note t cores before c.args.objects.now refl touching after (subst (λ o. AreWaiting p t before o cores c.wake_starts.new.w.awake.items) (sym touching) (woken_waiting p t before (touched_by p note) cores old c.wake_starts.new.w.awake.items woken watch.waiting));
       seated = subst (λ (v : _). AreSeated (tables_of cores) v.items) (sym c.wake_starts.ensures.seats) seated;
       behind = watch.behind;
       starters = subst (λ (v : _). AreStarters p v.items) (sym (c.wake_starts.ensures.starters ∙ c.wake_caller.ensures.starters)) watch.starters;
-    }
+    })
