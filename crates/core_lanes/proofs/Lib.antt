@@ -7,4 +7,5 @@ pub mod Merging
 pub mod Parts
 pub mod Passing
 pub mod Runs
+pub mod Starts
 pub mod Taken

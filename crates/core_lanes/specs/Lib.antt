@@ -5,5 +5,6 @@ pub mod Guiding
 pub mod Lanes
 pub mod Leaving
 pub mod Rooms
+pub mod Starting
 pub mod Taking
 pub mod Together

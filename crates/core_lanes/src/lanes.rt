@@ -8,13 +8,13 @@ ghost use Rattle.core_lanes.specs.Lanes.{IsSeated, AreSeated, HasGone, HaveGone}
 
 use crate::guesses::Guesses;
 use crate::guided::Guided;
+use crate::starting::start_each;
 use crate::stay::Stay;
 use crate::threads::is_shared;
 use crate::turns::make_turns;
 use bus_semantics::BusPlan;
 use cross_core_table::{CoreSeat, Round};
 use rte_text::Gate;
-use std::thread;
 use std::thread::Threads;
 use task_machine::TaskSet;
 
@@ -84,12 +84,10 @@ pub(crate) fn go_all<R: Threads + Sync, G: Gate>(
 {
     is_shared::<Round>();
     is_shared::<Guesses>();
-    let count = lanes.len();
-    guesses.news.begin(count);
-    thread::for_each_mut(
+    guesses.news.begin(lanes.len());
+    start_each(
         rt,
         lanes,
-        count,
         &|number: usize, lane: &mut Lane|
             requires plan { plan_in round.now.opening ≡ plan_of p.now }
             requires limit { round.now.opening.room ≡ 1024 }
