@@ -78,17 +78,19 @@ memory=$(awk '/^MemTotal/ { printf "%d", $2 / 1048576 + 0.5 }' /proc/meminfo)
 wrong_bodies() {
     cat <<'END'
 C breaks no rule|compatibility/accepts_many_to_many
-S is a script over the plan of C|script_reading/accepts_a_word_past_the_limits
+S is a script over the plan of C|none: it is an equation (below)
 the bytes are the text of a run|script_run/puts_no_run_mark script_run/puts_no_entries_of_the_round rte_text/drops_the_last_byte
-the run has the script's calls and run lines, all of them, in order|script_reading/skips_a_line script_run/hides_a_call script_run/skips_run_lines
-each entry is one that may come after those before it|data_objects/starts_what_is_not_pending area_objects/enters_a_held_area area_objects/leaves_for_another task_slots/appends_what_was_not_made
+the run has the script's calls and run lines, all of them, in order|script_run/hides_a_call script_run/skips_run_lines
+each entry is one that may come after those before it|data_objects/starts_what_is_not_pending task_slots/appends_what_was_not_made
 an entry of an activation is the next call of its program, given the answers before|task_slots/forgets_the_answer task_slots/caller_goes_on_too_early task_machine/hears_a_refused_call task_generator/reads_port_at_each_use task_generator/publishes_at_once task_generator/fetches_one_by_one task_machine/publishes_an_empty_list
-each answer is what the bus gives from the earlier entries|data_objects/keeps_another_value data_objects/answers_invalid_where_it_is_valid bundle_objects/fetches_at_two_moments bundle_objects/publishes_what_was_not_marked bundle_objects/takes_the_first_of_one_group queued_ports/overwrites_oldest server_objects/crosses_results mode_machine/enters_before_exits_end
+each answer is what the bus gives from the earlier entries|data_objects/keeps_another_value bundle_objects/fetches_at_two_moments bundle_objects/publishes_what_was_not_marked bundle_objects/takes_the_first_of_one_group queued_ports/overwrites_oldest mode_machine/enters_before_exits_end
 this holds in whatever order the cores took their turns|cross_core_table/stamps_under_a_foreign_lock cross_core_table/stamps_another_answer
 `idle` holds only if nothing may step any more|task_slots/starts_nothing bundle_objects/wakes_only_the_first_group script_run/closes_before_the_serial_pass
 `unsettled` holds only after 100,000 entries of runnables|script_run/gives_up_at_99_999
 status 0 comes only then|commands/done_after_a_failed_fetch commands/done_after_a_failed_put gathered_run/passes_over_a_failed_finish
-each other status comes only if its cause is there|commands/always_words commands/always_refused
+each other status comes only if its cause is there|commands/always_words commands/always_refused commands/always_too_many_cores
+of two nodes: each value that crosses is the one taken, up to the last one held, on each link, between the run lines of both|pair_run/sends_another_value pair_run/stops_after_one_receive pair_run/skips_the_last_link pair_run/runs_node_two_first
+of a live node: each feed comes whole, once and in its order|feed_queue/serves_without_the_queue feed_queue/takes_a_feed_backwards live_lanes/drops_a_contended_wish live_lanes/makes_a_wish_twice
 the least broken rule is named|compatibility/names_a_later_rule
 a trace is called legal exactly if it is the text of such a run, else its first line that is not, with the clause|trace_check/check_accepts_a_foreign_call trace_check/refuses_for_a_lower_clause trace_check/takes_an_open_end trace_check/closes_outside_a_run_line
 END
@@ -98,6 +100,7 @@ table() {
     local sentence bodies body crate cell
     while IFS='|' read -r sentence bodies; do
         cell=''
+        case $bodies in none:*) printf '| %s | %s |\n' "$sentence" "$bodies"; continue ;; esac
         for body in $bodies; do
             crate=${body%/*}
             [ -f "$top/crates/$crate/must-fail/${body#*/}.edit" ] || fail "there is no wrong body $body"
@@ -119,7 +122,13 @@ the serial pass takes its cores from the last on, or one of them twice|core_runt
 a line at rest is closed with `unsettled`|script_run|put_lap|closes|after a pass without an entry the word is `idle`
 a line goes on after 100,000 entries|script_run|put_lap|rises|a line that goes on has made fewer
 a turn in a lane never looks|core_lanes|turn_by_guide|looked|without an entry each look at what is awake said so
+the turn in which all looks are due looks at what is awake alone|core_lanes|Guided::look|looked|without an entry it made as many looks as are due, or found a word that names another core
+a look at all that stands before a core's last entry is counted|core_lanes|Stay::note|whole|an entry begins the count anew
+turns before a core's last entry are counted|core_lanes|Stay::note|turns|an entry begins the count anew
+the 33rd turn without an entry is counted as one that looked at all, and looks at what is awake alone|core_lanes|Stay::turn|counts|a turn is noted so only with as many looks as all slots take, or a word that names another core
 a core leaves after one turn that looks at all of its slots|core_lanes|Stay::note|turns|a turn without an entry counts as one more, whatever it looks at
+a core leaves after 34 turns, whatever they made|core_lanes|make_turns|left|it leaves only with 1,024 entries, or 64 turns behind the last of them
+a core leaves with a count of another round|core_lanes|Lane::go|its one clause|the count is that of its turns in this round, and true of its seat
 a core counts no entry that it made|core_lanes|turn_once|taken|without an entry the core and its bench are as they were
 a round has room for 1,025 entries of a core|core_lanes|run_together|its one clause|each core makes at most 1,024
 an object is acted on whose lock another core has|cross_core_table|act_at|knows|an entry comes only of a try that took the object
@@ -129,6 +138,20 @@ arguments are exchanged, a jump is one short, nested loops share a counter, a se
 an activation ends by another event than it began by|task_machine|next_call|its one clause|the call is what the body asks after the answers so far
 a line is read as an entry that has another line, or that does not fit|trace_reading|is_read_as|its one clause|the answer equals both tests
 an entry's line is called bad|trace_reading|read_entry|reads|a bad line is that of no item
+an area that is held is entered; an activation leaves the area of another|area_objects|AreaObject::act|answer|an answer has an entry only if this may come, and matches what the area keeps then
+a group is read as invalid if it is not; a variable is read with a code|data_objects|read_code|its one clause|the code equals that of the definition
+initial values are forgotten|data_objects|Group::new|kept|a new group keeps the initial values of its elements
+a start that is not due marks the group as invalid|data_objects|Group::act|same|what answers `NotYet` changes nothing
+a disabled event is admitted|machine_objects|admission|its one clause|the answer equals that of the definition
+a machine waits for its running activations only if it has no queue, or has room for one switch more|machine_objects|MachineObject::new|kept|a new machine keeps what the plan says of it
+an end tells no start that became due|machine_objects|MachineObject::act|told|an event that may start then, and could not before, is told
+a bench gives a stamp twice|port_objects|PlainBench::take_stamp|stamp|the stamp is the next number
+a loss is not told, or at another receiver|queue_objects|QueueGroup::act|answer|an answer is an entry that may come then, and a Receive has its code
+an event of another queue than the one that took a value may start|queue_objects|QueueGroup::new|kept|each event has the queue of its receiver
+a word beyond the limits is sent by a script; a line of it is left out|script_reading|read_script|read|the lines are those that the text has, and no line of it is bad
+results of two callers are exchanged; another request is begun; another point is told; the events of another point are told|server_objects|ServerObject::act|answer, told|an answer is an entry that may come then; what may start is told
+a server has room for one request more|server_objects|ServerObject::new|kept|a new server keeps the length that the plan gives its queue
+a trace's activation makes a call that its program does not make|trace_walks|is_next|its one clause|the entry's wish equals the next call; the same wrong body stands in `trace_check`
 a file that was read is called unread|commands|fetch_one|stopped|a file is unread only if a count of the shelf rose
 a text that was put is called cut|commands|put_text|its one clause|a text is cut only if a put failed
 a good script is refused|commands|script_over|stopped|the line that is named is the first bad one
@@ -140,9 +163,9 @@ END
 covered() {
     local body crate function clause why named
     while IFS='|' read -r body crate function clause why; do
-        grep -rqE "fn $function\\b" -- "$top/crates/$crate/src" || fail "there is no function $function of $crate"
-        named=$clause
-        [ "$clause" = 'its one clause' ] || named="\`$clause\`"
+        grep -rqE "fn ${function##*::}\\b" -- "$top/crates/$crate/src" || fail "there is no function $function of $crate"
+        named="\`${clause//, /\`, \`}\`"
+        [ "$clause" != 'its one clause' ] || named=$clause
         printf '| %s | `%s` | `%s` | %s | %s |\n' "$body" "$crate" "$function" "$named" "$why"
     done < <(covered_bodies)
 }
@@ -191,7 +214,8 @@ Other wrong bodies stand in the folders \`must-fail\`, which $crates crates have
 
 ## Which clause refuses what is tried no more
 
-These wrong bodies were tried once. A clause that says what the function does refuses each of them, and the proofs above rest on it.
+These wrong bodies were tried once. A clause that says what the function does refuses each of them, and the proofs above rest on it. Those
+of objects, scripts and walks stood in folders \`must-fail\` up to commit \`5d84f7c3\`, on which the gate refused each of them.
 
 | Wrong body | Crate | Function | Clause | Why it is refused |
 |---|---|---|---|---|
