@@ -7,5 +7,4 @@ pub mod Merging
 pub mod Parts
 pub mod Passing
 pub mod Runs
-pub mod Starts
 pub mod Taken

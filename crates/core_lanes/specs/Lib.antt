@@ -5,6 +5,5 @@ pub mod Guiding
 pub mod Lanes
 pub mod Leaving
 pub mod Rooms
-pub mod Starting
 pub mod Taking
 pub mod Together

@@ -8,7 +8,6 @@ ghost use Rattle.core_lanes.specs.Lanes.{IsSeated, AreSeated, HasGone, HaveGone}
 
 use crate::guesses::Guesses;
 use crate::guided::Guided;
-use crate::starting::start_each;
 use crate::stay::Stay;
 use crate::threads::is_shared;
 use crate::turns::make_turns;
@@ -17,6 +16,7 @@ use cross_core_table::{CoreSeat, Round};
 use rte_text::Gate;
 use std::thread::Threads;
 use task_machine::TaskSet;
+use thread_starts::start_each;
 
 /// A core with its seat in a round. It is worked on by one thread.
 #[derive(Drop)]

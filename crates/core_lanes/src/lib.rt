@@ -41,10 +41,6 @@
 //! looks alone, rounds of few calls ended before the server's thread had begun, and four clients with servers on other cores took
 //! five times as long.
 //!
-//! **Why does the calling thread start all others?** `for_each_mut` of the library halves its list, so that one new thread starts another while
-//! the first starts the next. The system put two that were started at once on one processor, where the second waited for a round's time.
-//! Each start costs the caller some 15 microseconds. Where no thread can be made, the last core goes first, as with `for_each_mut`.
-//!
 //! **In which order do cores take their turns?** In that of the threads, and no contract says more. Every order is legal, and the
 //! one that was is told by the stamps. So the text of a run of several cores is not fixed, and what has to be the same in each run
 //! is to be read when it does not depend on the order.
@@ -61,7 +57,6 @@ mod guided;
 mod lanes;
 mod laws;
 mod news;
-mod starting;
 mod stay;
 mod threads;
 mod together;

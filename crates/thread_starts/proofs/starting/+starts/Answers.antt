@@ -1,7 +1,7 @@
 use Rattle.std.proofs.Common.{◌+◌, refl, arith}
 use Rattle.std.specs.Fork.{AcceptsAt, ChangesAt}
-use Rattle.core_lanes.proofs.Starts.{accepts_first, accepts_rest, changes_both}
-use Rattle.core_lanes.proofs.starting.+starts.Goals as goal
+use Rattle.thread_starts.proofs.Starts.{accepts_first, accepts_rest, changes_both}
+use Rattle.thread_starts.proofs.starting.+starts.Goals as goal
 
 pub start_from-start_both-requires-clause-first : goal.start_from-start_both-requires-clause-first
 start_from-start_both-requires-clause-first g t c κs within =

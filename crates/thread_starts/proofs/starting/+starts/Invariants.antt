@@ -1,5 +1,5 @@
 use Rattle.std.proofs.Common.{◌+◌, ◌*◌, length}
-use Rattle.core_lanes.proofs.starting.+starts.Given as goal
+use Rattle.thread_starts.proofs.starting.+starts.Given as goal
 
 abbrev pub decreases-start_both-back : goal.decreases-start_both-back
 decreases-start_both-back g l = 4 * length l.rest.now + 1

@@ -1,7 +1,7 @@
 use Rattle.std.proofs.Common.{◌≡◌, ◌+◌, ◌<◌, length, slice_index_or, refl, ◌∙◌, subst, arith, rules}
 use Rattle.std.proofs.lemmas.List.{get_or_default}
 use Rattle.std.specs.Fork.{AcceptsAt, ChangesAt}
-use Rattle.core_lanes.proofs.starting.start_each.Goals as goal
+use Rattle.thread_starts.proofs.starting.start_each.Goals as goal
 
 pub start_from-requires : goal.start_from-requires
 start_from-requires g c = (

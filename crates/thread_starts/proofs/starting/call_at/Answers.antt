@@ -1,7 +1,7 @@
 use Rattle.std.proofs.Common.{◌≡◌, ◌<◌, length, slice_index_or, get_or-set_same, sym, subst, arith}
 use Rattle.std.proofs.lemmas.List.{get_or_default}
 use Rattle.std.specs.Fork.{ChangesAt}
-use Rattle.core_lanes.proofs.starting.call_at.Goals as goal
+use Rattle.thread_starts.proofs.starting.call_at.Goals as goal
 
 pub returns-clause-called : goal.returns-clause-called
 returns-clause-called g c d =

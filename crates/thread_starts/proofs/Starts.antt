@@ -3,7 +3,7 @@ use Rattle.std.proofs.Common.{◌≡◌, ◌+◌, ◌-◌, ◌<◌, ◌≤◌, �
 use mathlib.Core.Logic.{⊎_elim}
 use Rattle.std.proofs.lemmas.List.{get_or_append_left, get_or-append-add}
 use Rattle.std.proofs.lemmas.Bool.{cases_lt}
-use Rattle.core_lanes.specs.Starting.{AreAccepted, AreChanged}
+use Rattle.thread_starts.specs.Starting.{AreAccepted, AreChanged}
 
 module _ {X : Type 0} (P : ℕ → X → Type 0) (from : ℕ) where
   pub accepts_first : (all xs ys : List X) → all ≡ xs ++ ys → length xs ≡ 1 → AreAccepted P from all → AreAccepted P from xs

@@ -3,13 +3,13 @@
 ghost use Rattle.std.specs.Prelude.{◌≡◌, ◌<◌, length, slice_index_or};
 ghost use Rattle.std.specs.Fork.{AcceptsAt, AcceptsEach, ChangesAt, ChangesEach};
 ghost use denote.Param.Send.{IsSend, IsSync};
-ghost use Rattle.core_lanes.specs.Starting.{AreAccepted, AreChanged};
+ghost use Rattle.thread_starts.specs.Starting.{AreAccepted, AreChanged};
 
 use std::thread::{Threads, join_mut};
 
 /// Calls `f` with each place and its element, as `for_each_mut` does with a thread for each: in a thread of its own, if one can be made, and with
 /// the last on the caller's. The caller starts each of these threads itself.
-pub(crate) fn start_each<R: Threads + Sync, T: Send, F: Fn(usize, &mut T) + Sync>(
+pub fn start_each<R: Threads + Sync, T: Send, F: Fn(usize, &mut T) + Sync>(
     rt: &R,
     s: &mut [T],
     f: &F,

@@ -1,7 +1,7 @@
 use Rattle.std.proofs.Common.{◌≡◌, ◌+◌, slice_index_or, subst, arith}
 use Rattle.std.specs.Fork.{AcceptsAt, ChangesAt}
-use Rattle.core_lanes.proofs.Starts.{changes_only}
-use Rattle.core_lanes.proofs.starting.call_only.Goals as goal
+use Rattle.thread_starts.proofs.Starts.{changes_only}
+use Rattle.thread_starts.proofs.starting.call_only.Goals as goal
 
 pub call_at-requires-clause-accepts : goal.call_at-requires-clause-accepts
 call_at-requires-clause-accepts g c d =
