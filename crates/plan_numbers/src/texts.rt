@@ -43,9 +43,13 @@ fn name_of_item(kind: Option<&InterfaceKind>, item: u32) -> &[u8]
     }
 }
 
+/// Two texts with a dot between them.
 fn dotted(alloc: Global, first: &[u8], second: &[u8]) -> Result<Text, Memory>
     ensures { IfOk result (λ text. text ≡ (first.now ++ codes ".") ++ second.now) }
 {
+    if let Some(text) = Text::dotted(first, second) {
+        return Ok(text);
+    }
     let room = first.len().saturating_add(second.len()).saturating_add(1);
     let mut held = Vec::with_capacity(alloc, room)?;
     held.extend_from_slice(first)?;

@@ -4,3 +4,4 @@ pub mod MemorySinks
 pub mod Shelves
 pub mod Sinks
 pub mod Told
+pub mod Texts
