@@ -1,5 +1,5 @@
 -- Nothing in a calculation is declared, and nothing refers.
-use Rattle.std.proofs.Common.{◌≡◌, List, true, false, not, refl, ap, ◌∙◌}
+use Rattle.std.proofs.Common.{◌≡◌, List, true, false, not, ◌||◌, refl, sym, ap, ◌∙◌}
 use Rattle.std.proofs.lemmas.Bool.{false≢true, and_parts}
 use Rattle.serde_json.specs.Data.{Data}
 use Rattle.description_places.specs.declared.catalogs.Catalog.{Catalog}
@@ -9,6 +9,7 @@ use Rattle.description_shapes.specs.Calculations.{Calculation, assignment, expre
 use Rattle.description_places.specs.Distinct.{breaks_distinct, is_repeated}
 use Rattle.description_shapes.specs.Forms.{form_of}
 use Rattle.description_places.specs.References.{breaks_references, is_found}
+use Rattle.description_places.specs.Rules.{is_misnamed}
 use Rattle.description_shapes.specs.Skips.{is_plain, is_declared_kind, declares_nothing, is_referring_kind, refers_to_nothing, Skips}
 use Rattle.description_shapes.specs.Spots.{Level}
 use Rattle.description_shapes.specs.Visits.{Visit}
@@ -88,3 +89,7 @@ module _ (names : Catalog) where
 
   pub references_skip : (kind : Kind) → refers_to_nothing kind ≡ true → Skips (breaks_references names) kind
   references_skip kind h = skips (breaks_references names) never_refers kind (and_parts (is_plain (form_of kind)) (not (is_referring_kind kind)) h).0 (λ d s. ap not (finds kind d s.around h))
+
+  -- ---- so neither rule is broken in it
+  pub none_misnamed : (v : Visit) → IsCalculation v.kind → false ≡ is_misnamed names v
+  none_misnamed v is = sym (ap (λ b. b || breaks_references names v) (never_repeated is.0 v is.1) ∙ never_refers is.0 v is.1)

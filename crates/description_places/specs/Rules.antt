@@ -15,9 +15,12 @@ use Rattle.description_shapes.specs.Visits.{Visit, first_broken}
 -- Rule 4: what a list declares has distinct names; the place is the second one. Lists of names that refer declare none.
 -- Rule 5: what the names refer to is declared.
 
--- rules 2 to 5 together
+-- rules 4 and 5 together, and all from 2 to 5
+abbrev pub is_misnamed : Catalog → Visit → Bool
+is_misnamed lists v = breaks_distinct lists v || breaks_references lists v
+
 abbrev pub breaks_any : Catalog → Visit → Bool
-breaks_any lists v = breaks_shape_or_names v || (breaks_distinct lists v || breaks_references lists v)
+breaks_any lists v = breaks_shape_or_names v || is_misnamed lists v
 
 -- a place as it is written: a JSON pointer, the whole as `/`
 abbrev pub written : List ℕ → List ℕ

@@ -1,16 +1,20 @@
 //! Judging a description.
 
-ghost use Rattle.std.specs.Prelude.{◌≡◌, IfOk, IfErr, option_map, string_bytes};
+ghost use Rattle.std.specs.Prelude.{◌≡◌, IfOk, IfErr, is_none, option_map, string_bytes};
 ghost use Rattle.serde_json.specs.View.{view};
 ghost use Rattle.description_shapes.specs.Rules.{visits_of};
 ghost use Rattle.description_places.specs.Catalogs.{catalog_of};
-ghost use Rattle.description_places.specs.Rules.{breaks_any, refusal, rule_and_place, written, IsRefusalOf, IsUnbroken};
-ghost use Rattle.description_shapes.specs.Visits.{first_broken};
+ghost use Rattle.description_places.specs.Rules.{breaks_any, is_misnamed, refusal, rule_and_place, written, IsRefusalOf, IsUnbroken};
+ghost use Rattle.description_shapes.specs.Trails.{spot_of};
+ghost use Rattle.description_shapes.specs.Visits.{first_broken, visit_at};
 
 use crate::catalogs::{Catalog, catalog_of};
 use crate::distinct::DistinctRule;
 use crate::references::ReferenceRule;
-use description_shapes::{Kind, NameRule, Rule, ShapeOrNameRule, ShapeRule, Trail, first_fault};
+use description_shapes::{
+    Kind, NameRule, Rule, ShapeOrNameRule, ShapeRule, Trail, first_fault, is_calculation,
+    is_unbroken,
+};
 use rte_text::{Memory, Refusal, Refused, Text};
 use serde_json::{Category, Value};
 use std::alloc::Global;
@@ -37,6 +41,19 @@ pub fn judge(alloc: Global, bytes: &[u8]) -> Result<Value, Refused>
     }
 }
 
+/// Whether the value breaks rule 4 or 5. None in a calculation of a program does.
+#[tactic(auto, using(crate::proofs::Calculating::none_misnamed))]
+fn is_misnamed(declared: &Catalog, value: &Value, kind: Kind, trail: &Trail) -> bool
+    ensures { result ≡ is_misnamed declared.now (visit_at (spot_of trail.now) kind (view value.now)) }
+{
+    if is_calculation(kind) {
+        return false;
+    }
+    let distinct = DistinctRule { declared };
+    let references = ReferenceRule { declared };
+    distinct.is_broken(value, kind, trail) || references.is_broken(value, kind, trail)
+}
+
 /// Rules 2 to 5 together.
 #[derive(Clone, Copy)]
 struct AnyRule<'s, 'v> {
@@ -48,15 +65,8 @@ impl Rule for AnyRule<'_, '_> {
     ghost breaks = { λ rule. breaks_any rule.declared.now };
 
     fn is_broken(&self, value: &Value, kind: Kind, trail: &Trail) -> bool {
-        let distinct = DistinctRule {
-            declared: self.declared,
-        };
-        let references = ReferenceRule {
-            declared: self.declared,
-        };
         ShapeOrNameRule.is_broken(value, kind, trail)
-            || distinct.is_broken(value, kind, trail)
-            || references.is_broken(value, kind, trail)
+            || is_misnamed(self.declared, value, kind, trail)
     }
 
     fn passes(&self, _kind: Kind) -> bool {
@@ -83,10 +93,10 @@ fn refusal_by(alloc: Global, value: &Value, declared: &Catalog) -> Result<Option
     requires { declared.now ≡ catalog_of (view value.now) }
     ensures { IfOk result (λ found. option_map rule_and_place found ≡ refusal (view value.now)) }
 {
-    match first_place(alloc, &AnyRule { declared }, value)? {
-        Some(_) => refusal_in_turn(alloc, value, declared),
-        None => Ok(None),
+    if keeps(&AnyRule { declared }, value) {
+        return Ok(None);
     }
+    refusal_in_turn(alloc, value, declared)
 }
 
 fn refusal_in_turn(
@@ -110,6 +120,13 @@ fn refusal_in_turn(
         return Ok(Some(refusal_at(alloc, 5, place)?));
     }
     Ok(None)
+}
+
+/// Whether no value of the description breaks the rule.
+fn keeps<R: Rule>(rule: &R, value: &Value) -> bool
+    ensures { result ≡ is_none (first_broken (R.breaks rule.now) (visits_of (view value.now))) }
+{
+    is_unbroken(rule, value, Kind::Description, &Trail::Whole)
 }
 
 fn first_place<R: Rule>(alloc: Global, rule: &R, value: &Value) -> Result<Option<String>, Memory>

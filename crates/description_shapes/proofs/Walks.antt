@@ -1,6 +1,7 @@
 -- One more turn of the walk.
-use Rattle.std.proofs.Common.{◌≡◌, ℕ, ◌+◌, ◌<◌, List, [], ◌++◌, map, drop, length, get_or, Bool, cond, Option, Some, None, option_map, is_eq, nat_cmp, Ordering, Less, Equal, Greater, String}
+use Rattle.std.proofs.Common.{◌≡◌, ℕ, ◌+◌, ◌<◌, List, [], ◌++◌, map, drop, length, get_or, Bool, true, false, cond, Option, Some, None, is_none, option_map, is_eq, nat_cmp, Ordering, Less, Equal, Greater, String}
 use Rattle.std.proofs.Common.{Global, string_bytes, Bor, Result, Ok, Err, IfOk, refl, rules, sym, ap, ◌∙◌}
+use Rattle.std.proofs.lemmas.Bool.{false≢true}
 use Rattle.std.proofs.lemmas.List.{at_drop_more}
 use Rattle.std.proofs.lemmas.List.Folds.{find-append}
 use Rattle.std.proofs.lemmas.Map.Text.{is_eq-slice_cmp}
@@ -107,6 +108,37 @@ pub part_unbroken : (fails : Visit → Bool) (parts : List Value) (kinds : ℕ �
     → whole ≡ first_broken fails (in_parts kinds spots (i + 1) (items_visits (items_view (drop (i + 1) parts))))
 part_unbroken fails parts kinds spots i part kind spot whole found h part_is kind_is spot_is inv is none =
     first_later whole _ _ found (part_turn fails parts kinds spots i part kind spot whole h part_is kind_is spot_is inv) is none
+
+-- whether none is broken: where one is here, and where none is here
+broken_here : (whole here later : Option (List ℕ)) → whole ≡ option_or here later → false ≡ is_none here → false ≡ is_none whole
+broken_here whole None later turn is = absurd (false≢true is)
+broken_here whole (Some place) later turn is = ap is_none (sym turn)
+
+none_here : (whole here later : Option (List ℕ)) → whole ≡ option_or here later → true ≡ is_none here → whole ≡ later
+none_here whole None later turn is = turn
+none_here whole (Some place) later turn is = absurd (false≢true (sym is))
+
+pub key_judged : (fails : Visit → Bool) (keys : List Field) (spots : List ℕ → Spot) (ms : List Member) (i : ℕ) (d : Field) (whole : Option (List ℕ)) → i < length keys
+    → whole ≡ first_broken fails (under_keys (map key_of (drop i keys)) spots ms) → false ≡ is_none (first_broken fails (at_key (key_of (get_or keys i d)) spots ms)) → false ≡ is_none whole
+key_judged fails keys spots ms i d whole h inv is = broken_here whole _ _ (inv ∙ keys_turn fails keys spots ms i d h) is
+
+pub key_passed : (fails : Visit → Bool) (keys : List Field) (spots : List ℕ → Spot) (ms : List Member) (i : ℕ) (d : Field) (whole : Option (List ℕ)) → i < length keys
+    → whole ≡ first_broken fails (under_keys (map key_of (drop i keys)) spots ms) → true ≡ is_none (first_broken fails (at_key (key_of (get_or keys i d)) spots ms))
+    → whole ≡ first_broken fails (under_keys (map key_of (drop (i + 1) keys)) spots ms)
+key_passed fails keys spots ms i d whole h inv is = none_here whole _ _ (inv ∙ keys_turn fails keys spots ms i d h) is
+
+pub part_judged : (fails : Visit → Bool) (parts : List Value) (kinds : ℕ → Kind) (spots : ℕ → Spot) (i : ℕ) (part : Value) (kind : Kind) (spot : Spot) (whole : Option (List ℕ)) → i < length parts
+    → part ≡ get_or parts i part → kind ≡ kinds i → spot ≡ spots i → whole ≡ first_broken fails (in_parts kinds spots i (items_visits (items_view (drop i parts))))
+    → false ≡ is_none (first_broken fails (visits (view part) kind spot)) → false ≡ is_none whole
+part_judged fails parts kinds spots i part kind spot whole h part_is kind_is spot_is inv is =
+    broken_here whole _ _ (part_turn fails parts kinds spots i part kind spot whole h part_is kind_is spot_is inv) is
+
+pub part_passed : (fails : Visit → Bool) (parts : List Value) (kinds : ℕ → Kind) (spots : ℕ → Spot) (i : ℕ) (part : Value) (kind : Kind) (spot : Spot) (whole : Option (List ℕ)) → i < length parts
+    → part ≡ get_or parts i part → kind ≡ kinds i → spot ≡ spots i → whole ≡ first_broken fails (in_parts kinds spots i (items_visits (items_view (drop i parts))))
+    → true ≡ is_none (first_broken fails (visits (view part) kind spot))
+    → whole ≡ first_broken fails (in_parts kinds spots (i + 1) (items_visits (items_view (drop (i + 1) parts))))
+part_passed fails parts kinds spots i part kind spot whole h part_is kind_is spot_is inv is =
+    none_here whole _ _ (part_turn fails parts kinds spots i part kind spot whole h part_is kind_is spot_is inv) is
 
 -- the spot of a trail that goes one level deeper
 pub spot_of_part : (outer : Bor Trail) (owner : Bor Value) (kind : Kind) (i : ℕ) → spot_of (Part outer owner kind i) ≡ inside_part (spot_of outer.now) kind (view owner.now) i

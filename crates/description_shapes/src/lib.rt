@@ -67,4 +67,4 @@ pub use rules::{NameRule, ShapeOrNameRule, ShapeRule};
 pub use shape::has_shape;
 pub use skipping::{declares_nothing, refers_to_nothing};
 pub use trail::Trail;
-pub use walk::first_fault;
+pub use walk::{PartKinds, first_fault, is_unbroken, part_kinds};
