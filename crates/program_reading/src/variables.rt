@@ -1,14 +1,14 @@
 //! The variables of a program.
 
 ghost use Rattle.std.specs.Prelude.{◌≡◌, ◌<◌, ◌^◌, [], IfOk, OnOk, length, map, slice_get, unwrap_or};
-ghost use Rattle.description_shapes.specs.Forms.{form_of};
-ghost use Rattle.description_shapes.specs.Visits.{part_of};
+ghost use Rattle.description_shapes.specs.Alternatives.{resolved};
+ghost use Rattle.serde_json.specs.Data.{string};
 ghost use Rattle.serde_json.specs.View.{items_view, view};
 ghost use Rattle.declared_names.specs.Names.{text_of};
 ghost use Rattle.program_reading.specs.Variables.{added, all_added, in_parts, name_here, names_in, names_in_each};
 
 use declared_names::{Positions, text_in};
-use description_shapes::{Form, Kind, form_of, resolved, row_of};
+use description_shapes::{Kind, part_kinds, resolved};
 use indexmap::IndexSet;
 use rte_text::Memory;
 use serde_json::Value;
@@ -86,34 +86,24 @@ pub fn add_all<'a>(vars: &mut Variables<'a>, names: &[&'a str]) -> Result<(), Me
     Ok(())
 }
 
-fn part_of(kind: Kind, part: usize) -> Kind
-    ensures { result ≡ part_of (form_of kind) kind part }
-{
-    match form_of(kind) {
-        Form::List(part) | Form::Counted(_, _, part) => part,
-        Form::Row => row_of(kind).get(part).copied().unwrap_or(Kind::Anything),
-        _ => Kind::Anything,
-    }
-}
-
 /// Adds the variables that the value of this kind names, in document order.
 #[cycle(names)]
 pub fn add_names<'a>(vars: &mut Variables<'a>, value: &'a Value, kind: Kind) -> Result<(), Memory>
     ensures { OnOk result (vars.new ≡ all_added vars.old (names_in (view value.now) kind)) }
 {
-    let kind = resolved(kind, value);
     match value {
         Value::String(_) => add_name(vars, text_in(value), kind),
-        Value::Array(parts) => add_in_parts(vars, parts, kind),
+        Value::Array(parts) => add_in_parts(vars, parts, resolved(kind, value)),
         Value::Null | Value::Bool(_) | Value::Number(_) | Value::Object(_) => Ok(()),
     }
 }
 
+/// Adds the text that stands where a value of this kind should, if it is the name of a variable.
 fn add_name<'a>(vars: &mut Variables<'a>, name: &'a str, kind: Kind) -> Result<(), Memory>
-    ensures { OnOk result (vars.new ≡ all_added vars.old (name_here kind name.now)) }
+    ensures { OnOk result (vars.new ≡ all_added vars.old (name_here (resolved kind (string name.now)) name.now)) }
 {
     match kind {
-        Kind::LocalName => vars.add(name),
+        Kind::LocalName | Kind::Expression => vars.add(name),
         _ => Ok(()),
     }
 }
@@ -122,8 +112,9 @@ fn add_name<'a>(vars: &mut Variables<'a>, name: &'a str, kind: Kind) -> Result<(
 fn add_in_parts<'a>(vars: &mut Variables<'a>, parts: &'a [Value], kind: Kind) -> Result<(), Memory>
     ensures { OnOk result (vars.new ≡ all_added vars.old (in_parts kind (names_in_each (items_view parts.now)))) }
 {
+    let kinds = part_kinds(kind);
     for part in 0..parts.len() {
-        add_names(vars, &parts[part], part_of(kind, part))?;
+        add_names(vars, &parts[part], kinds.at(part))?;
     }
     Ok(())
 }
