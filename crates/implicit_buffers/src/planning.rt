@@ -72,14 +72,27 @@ fn elements_of(alloc: Global, runnable: &RunnablePlan, fetches: bool) -> Result<
     Ok(elements)
 }
 
+/// One more runnable: the elements that it fetches, or else those that it publishes, are added as a list.
+fn add_elements(
+    alloc: Global,
+    lists: &mut Vec<Seq<u32>>,
+    runnable: &RunnablePlan,
+    fetches: bool,
+) -> Result<(), Memory>
+    ensures { OnOk result (lists.new.items ≡ lists.old.items ++ named (is_implicit fetches) (runnable_of runnable.now).accesses (runnable_of runnable.now).targets ∷ []) }
+{
+    let elements = elements_of(alloc, runnable, fetches)?;
+    lists.push(Seq::of(elements))?;
+    Ok(())
+}
+
 /// The elements that each of the runnables fetches.
 fn all_fetched(alloc: Global, runnables: &[RunnablePlan]) -> Result<Vec<Seq<u32>>, Memory>
     ensures { IfOk result (λ lists. lists.items ≡ map fetched_by (map runnable_of runnables.now)) }
 {
     let mut lists = Vec::new(alloc);
     for runnable in runnables {
-        let elements = elements_of(alloc, runnable, true)?;
-        lists.push(Seq::of(elements))?;
+        add_elements(alloc, &mut lists, runnable, true)?;
     }
     Ok(lists)
 }
@@ -90,8 +103,7 @@ fn all_published(alloc: Global, runnables: &[RunnablePlan]) -> Result<Vec<Seq<u3
 {
     let mut lists = Vec::new(alloc);
     for runnable in runnables {
-        let elements = elements_of(alloc, runnable, false)?;
-        lists.push(Seq::of(elements))?;
+        add_elements(alloc, &mut lists, runnable, false)?;
     }
     Ok(lists)
 }
