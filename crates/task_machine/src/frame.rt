@@ -1,6 +1,6 @@
 //! Frames, which run bodies.
 
-ghost use Rattle.std.specs.Prelude.{◌≡◌, ◌++◌, ◌∷◌, [], List, length, get_or, pos, Some, None, slice_get, IfOk, MatchOption};
+ghost use Rattle.std.specs.Prelude.{◌≡◌, ◌++◌, ◌∷◌, [], List, length, get_or, pos, Some, None, slice_get, IfOk, OnOk, MatchOption};
 ghost use Rattle.bus_semantics.specs.Common.{option_copied, ActKey, declared_code, results, wanted_of, to_write, to_send, to_ask, to_switch, to_publish, to_publish_all, to_return};
 ghost use Rattle.bus_semantics.specs.declared.entries.Deed.{Deed};
 ghost use Rattle.task_machine.specs.declared.instr.Body.{Body};
@@ -31,7 +31,7 @@ pub enum Next {
     Over,
 }
 
-/// An activation in its body. One frame runs one activation at a time, and takes no memory after `new`.
+/// An activation in its body. One frame runs one activation at a time. One that is made for all bodies takes no memory after `new`.
 #[derive(Drop)]
 pub struct Frame {
     key: ActKey,
@@ -266,8 +266,8 @@ impl Frame {
         })
     }
 
-    /// A frame in which an activation of the key begins with this Start. It has the room of that body alone, so it is for one activation. An
-    /// error says that there was no memory.
+    /// A frame in which an activation of the key begins with this Start. It has the room of that body alone: a later activation
+    /// begins in it by `begin_again`. An error says that there was no memory.
     pub fn for_activation(
         alloc: Global,
         t: &TaskSet,
@@ -308,6 +308,27 @@ impl Frame {
                 self.at.begin(body, place, words_of_start(start));
             }
             None => self.at.begin_nowhere(),
+        }
+    }
+
+    /// An activation of the key begins with this Start in this frame, which gets the room of that body where it has less. An error says that there
+    /// was no memory; what the frame stands for is open then.
+    pub fn begin_again(&mut self, t: &TaskSet, key: ActKey, start: &Deed) -> Result<(), Memory>
+        ensures { OnOk result (Stands t.now key start.now [] self.new) }
+    {
+        self.key = key;
+        self.event = event_of(start);
+        match t.bodies.items().get(key.runnable as usize) {
+            Some(body) => {
+                let place = first_place(t, self.event);
+                self.at.make_room(body)?;
+                self.at.begin(body, place, words_of_start(start));
+                Ok(())
+            }
+            None => {
+                self.at.begin_nowhere();
+                Ok(())
+            }
         }
     }
 

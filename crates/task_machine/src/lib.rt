@@ -31,9 +31,9 @@
 //! **How does a refused call not hear?** What a call takes of an answer says too how many instructions the answer passes over. So
 //! a call that waits is two instructions, and a frame keeps nothing of the first.
 //!
-//! **What has a frame of a checked activation?** It is made at its Start, with the room of its own body, and goes at its end
-//! (`Frame::for_activation`), as bodies of a trace's runnables may be of very different sizes. A task of a node keeps its frame,
-//! which has the room of the largest body and takes no memory while it runs.
+//! **What has a frame of a checked activation?** It is made at the first Start of its key, with the room of its own body
+//! (`Frame::for_activation`), as bodies of a trace's runnables may be of very different sizes. The later activations of the key begin in
+//! it (`Frame::begin_again`). A task of a node keeps its frame, which has the room of the largest body and takes no memory while it runs.
 //!
 //! **Why does `next_call` not change a frame?** A frame stands for the answers so far, and asking is no answer. So it may be asked
 //! again, and a turn that made nothing leaves the frame as it was.

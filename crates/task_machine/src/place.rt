@@ -1,6 +1,6 @@
 //! Where an activation stands in its body.
 
-ghost use Rattle.std.specs.Prelude.{◌≡◌, ◌≤◌, ◌<◌, ◌+◌, ◌^◌, ℕ, [], set, false, if◌then◌else◌, Some, IfOk};
+ghost use Rattle.std.specs.Prelude.{◌≡◌, ◌≤◌, ◌<◌, ◌+◌, ◌^◌, ℕ, [], set, false, if◌then◌else◌, Some, IfOk, OnOk};
 ghost use Rattle.std.specs.Vec.{vec_capacity};
 ghost use Rattle.task_machine.specs.Instructions.{instruction_of};
 ghost use Rattle.task_machine.specs.Machine.{Spot, Rest, silently, settled, answered};
@@ -9,7 +9,7 @@ ghost use Rattle.task_machine.specs.Spots.{store_of, room_of, spot_of, code_in, 
 use crate::Memory;
 use crate::finding::instr_at;
 use crate::instr::{Body, Instr, Targets};
-use crate::store::{Store, refill};
+use crate::store::{Store, make_room, refill};
 use crate::taking::is_over;
 use bus_semantics::Deed;
 use rte_value::Word;
@@ -67,6 +67,20 @@ impl Place {
             },
             counters,
         })
+    }
+
+    /// Makes the room that this body takes, where there is less. An error says that there was no memory.
+    pub fn make_room(&mut self, body: &Body) -> Result<(), Memory>
+        ensures vars { OnOk result (body.now.vars ≤ vec_capacity self.new.store.vars) }
+        ensures counters { OnOk result (body.now.counters ≤ vec_capacity self.new.counters) }
+        ensures fetched { OnOk result (body.now.fetched ≤ vec_capacity self.new.store.fetched) }
+        ensures written { OnOk result (body.now.written ≤ vec_capacity self.new.store.written) }
+    {
+        make_room(&mut self.store.vars, body.vars as usize)?;
+        make_room(&mut self.counters, body.counters as usize)?;
+        make_room(&mut self.store.fetched, body.fetched)?;
+        make_room(&mut self.store.written, body.written)?;
+        Ok(())
     }
 
     /// Executes an instruction that asks nothing of the bus. Answers whether it is one; a call changes nothing.

@@ -1,10 +1,11 @@
 //! What a body works on.
 
-ghost use Rattle.std.specs.Prelude.{◌≡◌, ◌≤◌, [], map, get_or, is_none, replicate, set};
+ghost use Rattle.std.specs.Prelude.{◌≡◌, ◌≤◌, [], map, get_or, is_none, replicate, set, OnOk};
 ghost use Rattle.bus_semantics.specs.Common.{vec_capacity, words_of, stored};
 ghost use Rattle.task_machine.specs.Store.{with_vars, with_fetched, with_written, fetched_in, written_in, words_or_none};
 ghost use Rattle.task_machine.specs.Spots.{store_of, room_of, first_store};
 
+use crate::Memory;
 use crate::instr::Body;
 use rte_value::{Value, Word};
 
@@ -30,6 +31,17 @@ pub fn refill<T: Copy>(items: &mut Vec<T>, count: usize, item: T)
     for _ in 0..count {
         items.push_reserved(item);
     }
+}
+
+/// A list that has room for so many items, or is emptied and gets it. An error says that there was no memory.
+pub fn make_room<T: Copy>(items: &mut Vec<T>, count: usize) -> Result<(), Memory>
+    ensures { OnOk result (count ≤ vec_capacity items.new) }
+{
+    if items.capacity() < count {
+        items.clear();
+        items.reserve_exact(count)?;
+    }
+    Ok(())
 }
 
 /// The variable takes the word. One that there is not takes nothing.

@@ -1,7 +1,7 @@
 -- What a walk stands for after an entry.
-use Rattle.std.proofs.Common.{◌≡◌, ℕ, Bool, true, false, not, if◌then◌else◌, refl, sym, ◌∙◌, ap, List, [], ◌∷◌, ◌++◌, Option, Some, None, is_some}
+use Rattle.std.proofs.Common.{◌≡◌, ℕ, Bool, true, false, not, if◌then◌else◌, refl, sym, ◌∙◌, ap, subst, List, [], ◌∷◌, ◌++◌, Option, Some, None, is_some}
 use Rattle.std.specs.Prelude.{option_and_then, ◌||◌}
-use Rattle.bus_semantics.specs.Common.{list_any, or_from, list_any-append, ActKey, Value, words_of, Plan, History, is_of, is_over, event_started, runs, Activation, with_deed, direct_key}
+use Rattle.bus_semantics.specs.Common.{list_any, false≢true, or_from, list_any-append, ActKey, Value, words_of, Plan, History, is_of, is_over, event_started, runs, Activation, with_deed, direct_key}
 use Rattle.bus_semantics.specs.Common.{accepted_point, asked_last, is_held_back}
 use Rattle.bus_laws.specs.Common.{Deed, Entry}
 use Rattle.bus_semantics.specs.declared.entries.Deed.TheVariants as deed
@@ -10,7 +10,7 @@ use Rattle.task_machine.specs.declared.instr.TaskSet.{TaskSet}
 use Rattle.task_machine.specs.Frames.{Stands}
 use Rattle.trace_walks.specs.declared.walk.Running.{Running}
 use Rattle.trace_walks.specs.declared.walk.Walk.{Walk}
-use Rattle.trace_walks.specs.Walking.{entry_of, IsRunning, RunningStands, WalkStands}
+use Rattle.trace_walks.specs.Walking.{Begins, Hears, entry_of, IsRunning, RunningStands, WalkStands}
 
 -- a deed that starts nothing
 grown : (d : Deed) (a : Activation) → event_started d ≡ None → with_deed d (Some a) ≡ Some (record { event = a.event; start = a.start; deeds = a.deeds ++ d ∷ [] })
@@ -39,7 +39,7 @@ module _ (t : TaskSet) (p : Plan) (k : ActKey) (h : History) where
       by_direct None is = rw (asked_now d, is) refl
       by_direct (Some j) is = rw (asked_now d, is, itself k) refl
 
-  pub begun : (event : ℕ) (point : Option ℕ) (value : Value) (r : Running) → r.event ≡ event → Stands t k (deed.Start event point value) [] r.frame
+  begun : (event : ℕ) (point : Option ℕ) (value : Value) (r : Running) → r.event ≡ event → Stands t k (deed.Start event point value) [] r.frame
       → WalkStands t p k (entry_of k (deed.Start event point value) ∷ h) (record { running = Some r; asked = None; held = false })
   begun event point value r is stands = record {
     running = record {
@@ -57,6 +57,15 @@ module _ (t : TaskSet) (p : Plan) (k : ActKey) (h : History) where
     held = sym (held_now (deed.Start event point value));
   }
 
+  pub begun_so : (d : Deed) (event : ℕ) (point : Option ℕ) (value : Value) (o : Option Running) → d ≡ deed.Start event point value → Begins t k event d o
+      → WalkStands t p k (entry_of k d ∷ h) (record { running = o; asked = None; held = false })
+  begun_so d event point value o is begins =
+      let r = begins.running in
+      let stands : Stands t k (deed.Start event point value) [] r.frame = subst (λ (x : Deed). Stands t k x [] r.frame) is begins.stands in
+      let walk = begun event point value r begins.event_is stands in
+      let here = subst (λ (x : Deed). WalkStands t p k (entry_of k x ∷ h) (record { running = Some r; asked = None; held = false })) (sym is) walk in
+      subst (λ (x : Option Running). WalkStands t p k (entry_of k d ∷ h) (record { running = x; asked = None; held = false })) (sym begins.is) here
+
   module _ (d : Deed) (asked : Option ℕ) (held : Bool) (asks : asked ≡ accepted_point d) (holds : held ≡ is_some (option_and_then (direct_key p) (accepted_point d))) where
     pub heard_last : is_over d ≡ true → WalkStands t p k (entry_of k d ∷ h) (record { running = None; asked = asked; held = held })
     heard_last over = record {
@@ -65,7 +74,7 @@ module _ (t : TaskSet) (p : Plan) (k : ActKey) (h : History) where
       held = holds ∙ sym (held_now d);
     }
 
-    pub heard_more : is_over d ≡ false → event_started d ≡ None → (before after : Running) → after.event ≡ before.event
+    heard_more : is_over d ≡ false → event_started d ≡ None → (before after : Running) → after.event ≡ before.event
         → ((j : ActKey) (start : Deed) (answers : List Deed) → Stands t j start answers before.frame → Stands t j start (answers ++ d ∷ []) after.frame)
         → IsRunning t k h before → WalkStands t p k (entry_of k d ∷ h) (record { running = Some after; asked = asked; held = held })
     heard_more over other before after same fed r =
@@ -85,6 +94,13 @@ module _ (t : TaskSet) (p : Plan) (k : ActKey) (h : History) where
           asked = asks ∙ sym (asked_now d);
           held = holds ∙ sym (held_now d);
         }
+
+    pub heard_on : is_over d ≡ false → event_started d ≡ None → runs k h ≡ true → (before after : Option Running) → Hears t d before after → RunningStands t k h before
+        → WalkStands t p k (entry_of k d ∷ h) (record { running = after; asked = asked; held = held })
+    heard_on over other running None after hears none = absurd (false≢true (sym none ∙ running))
+    heard_on over other running (Some before) after hears was =
+        subst (λ (o : Option Running). WalkStands t p k (entry_of k d ∷ h) (record { running = o; asked = asked; held = held })) (sym hears.is)
+        (heard_more over other before hears.running hears.event_is hears.goes_on was)
 
   -- ---- another's entry
 

@@ -1,6 +1,6 @@
 -- What is kept of a key's activations along a trace, and what it stands for in a history (SWS_RTE: runnable activation; Rte_Call of a server
 -- without a queue). Histories stand the newest first, the deeds of an activation the oldest first.
-use Rattle.std.specs.Prelude.{◌≡◌, ℕ, List, [], Bool, true, false, Option, Some, None, is_some, option_map, slice_get}
+use Rattle.std.specs.Prelude.{◌≡◌, ℕ, List, [], ◌∷◌, ◌++◌, Bool, true, false, Option, Some, None, is_some, option_map, slice_get}
 use Rattle.bus_semantics.specs.Common.{list_any, ActKey, Value, words_of, Plan, Wanted, History, runs, is_over, Activation, activation_of, asked_last, is_held_back, may_start, next_wish}
 use Rattle.bus_laws.specs.Common.{Act, Deed, Entry}
 use Rattle.bus_semantics.specs.declared.entries.Deed.TheVariants.{Start}
@@ -36,6 +36,33 @@ pub record WalkStands (t : TaskSet) (p : Plan) (k : ActKey) (h : History) (w : W
   pub running : RunningStands t k h w.running
   pub asked : w.asked ≡ asked_last k h
   pub held : w.held ≡ is_held_back p h k
+
+-- ---- the activation that runs
+
+-- one has begun with this Start, by this event
+pub record Begins (t : TaskSet) (k : ActKey) (event : ℕ) (start : Deed) (o : Option Running) : Type 0 where
+  pub running : Running
+  pub is : o ≡ Some running
+  pub event_is : running.event ≡ event
+  pub stands : Stands t k start [] running.frame
+
+-- what it stands for it stands for after the answer too
+abbrev pub StandsOn : TaskSet → (answer : Deed) → (old new : Running) → Type 0
+StandsOn t d old new = (k : ActKey) (start : Deed) (answers : List Deed) → Stands t k start answers old.frame → Stands t k start (answers ++ d ∷ []) new.frame
+
+-- it still runs, and has heard the answer
+pub record GoesOn (t : TaskSet) (answer : Deed) (old : Running) (new : Option Running) : Type 0 where
+  pub running : Running
+  pub is : new ≡ Some running
+  pub event_is : running.event ≡ old.event
+  pub goes_on : StandsOn t answer old running
+
+-- the one that runs, if one does, goes on
+abbrev pub Hears : TaskSet → (answer : Deed) → (old new : Option Running) → Type 0
+Hears t d None new = new ≡ None
+Hears t d (Some old) new = GoesOn t d old new
+
+-- ---- before a trace
 
 -- nothing has happened
 abbrev pub AreFresh : List Walk → Type 0

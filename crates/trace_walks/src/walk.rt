@@ -9,6 +9,7 @@ use bus_semantics::{BusPlan, Deed, Entry};
 use rte_value::ActKey;
 use same_entries::is_wish_of;
 use std::alloc::Global;
+use std::marker::Model;
 use task_machine::{Frame, Next, TaskSet};
 
 /// Whether an activation is over with this deed: its End, or an admission that was refused.
@@ -72,11 +73,95 @@ struct Running {
     frame: Frame,
 }
 
+/// The activation of a key that runs, if one does. An ended one leaves its frame, in which the next one begins. Clauses see the one that
+/// runs.
+#[derive(Drop)]
+struct Seat {
+    last: Option<Running>,
+    runs: bool,
+}
+
+impl Model for Seat {
+    ghost use Rattle.std.specs.Prelude.{Option, None, if◌then◌else◌};
+    ghost use Rattle.trace_walks.specs.declared.walk.Running.{Running};
+
+    ghost Value = { Option Running };
+
+    ghost view = { λ s. if s.runs then s.last else None };
+}
+
+impl Seat {
+    ghost use Rattle.std.specs.Prelude.{◌≡◌, None, OnOk, is_some, option_map};
+    ghost use Rattle.trace_walks.specs.Walking.{Begins, Hears};
+
+    /// No activation has begun.
+    fn new() -> Seat
+        ensures { result ≡ None }
+    {
+        Seat {
+            last: None,
+            runs: false,
+        }
+    }
+
+    /// The activation that runs.
+    fn activation(&self) -> Option<&Running>
+        ensures { option_map (λ running. running.now) result ≡ self.now }
+    {
+        if self.runs { self.last.as_ref() } else { None }
+    }
+
+    /// An activation of the key begins with this Start, by this event. An error says that there was no memory.
+    fn begin(
+        &mut self,
+        alloc: Global,
+        t: &TaskSet,
+        key: ActKey,
+        event: u32,
+        start: &Deed,
+    ) -> Result<(), Memory>
+        ensures { OnOk result (Begins t.now key event start.now self.new) }
+    {
+        match &mut self.last {
+            Some(last) => {
+                last.frame.begin_again(t, key, start)?;
+                last.event = event;
+                self.runs = true;
+                Ok(())
+            }
+            None => {
+                let frame = Frame::for_activation(alloc, t, key, start)?;
+                self.last = Some(Running { event, frame });
+                self.runs = true;
+                Ok(())
+            }
+        }
+    }
+
+    /// The activation that runs, if one does, hears an answer.
+    fn hear(&mut self, t: &TaskSet, answer: &Deed)
+        ensures { Hears t.now answer.now self.old self.new }
+    {
+        if self.runs {
+            if let Some(last) = &mut self.last {
+                last.frame.feed(t, answer);
+            }
+        }
+    }
+
+    /// The activation that runs is over.
+    fn end(&mut self)
+        ensures { self.new ≡ None }
+    {
+        self.runs = false;
+    }
+}
+
 /// What is kept of the activations of a key along a trace: the one that runs, the point of its last entry if that is an accepted ask,
 /// and whether the direct activation that it called has not ended since.
 #[derive(Drop)]
 pub struct Walk {
-    running: Option<Running>,
+    running: Seat,
     asked: Option<u32>,
     held: bool,
 }
@@ -101,7 +186,7 @@ impl Walk {
         ensures { (t : TaskSet) (p : Plan) (k : ActKey) → WalkStands t p k [] result }
     {
         Walk {
-            running: None,
+            running: Seat::new(),
             asked: None,
             held: false,
         }
@@ -124,14 +209,14 @@ impl Walk {
     pub fn runs(&self) -> bool
         ensures { result ≡ is_some self.now.running }
     {
-        self.running.is_some()
+        self.running.activation().is_some()
     }
 
     /// The event that started the running activation.
     pub fn event(&self) -> Option<u32>
         ensures { result ≡ event_of self.now }
     {
-        match &self.running {
+        match self.running.activation() {
             Some(running) => Some(running.event),
             None => None,
         }
@@ -146,7 +231,7 @@ impl Walk {
             return Next::Over;
         }
         // Each arm returns: what the arms give to a match is copied once more behind it.
-        match &self.running {
+        match self.running.activation() {
             Some(running) => return running.frame.next_call(t),
             None => return Next::Over,
         }
@@ -157,7 +242,7 @@ impl Walk {
         ensures { (p : Plan) (k : ActKey) (h : History) → AsksAsPlanned p t.now → key_fits p k ≡ true → WalkStands t.now p k h self.now →
             result ≡ is_wanted_next p h k entry.now.deed }
     {
-        match &self.running {
+        match self.running.activation() {
             Some(running) => is_next(entry, running.event, &running.frame.next_call(t)),
             None => false,
         }
@@ -175,8 +260,7 @@ impl Walk {
         ensures { OnOk result ((p : Plan) (h : History) (point : Option ℕ) (value : Value) → start.now ≡ Start event point value →
             WalkStands t.now p key (entry_of key start.now ∷ h) self.new) }
     {
-        let frame = Frame::for_activation(alloc, t, key, start)?;
-        self.running = Some(Running { event, frame });
+        self.running.begin(alloc, t, key, event, start)?;
         self.asked = None;
         self.held = false;
         Ok(())
@@ -188,9 +272,9 @@ impl Walk {
             WalkStands t.now (plan_of p.now) k h self.old → WalkStands t.now (plan_of p.now) k (entry_of k deed.now ∷ h) self.new }
     {
         if is_over(deed) {
-            self.running = None;
-        } else if let Some(running) = &mut self.running {
-            running.frame.feed(t, deed);
+            self.running.end();
+        } else {
+            self.running.hear(t, deed);
         }
         self.asked = accepted_point(deed);
         self.held = holds_back(p, deed);

@@ -1,11 +1,10 @@
-use Rattle.std.proofs.Common.{◌≡◌, ◌∷◌, ◌∙◌, refl, sym, subst, true}
-use Rattle.bus_semantics.specs.Common.{false≢true, plan_of}
-use Rattle.trace_walks.specs.declared.walk.Running.{Running}
+use Rattle.std.proofs.Common.{◌≡◌, ◌∷◌, ◌∙◌, sym, subst}
+use Rattle.bus_semantics.specs.Common.{plan_of}
 use Rattle.trace_walks.specs.declared.walk.Walk.{Walk}
-use Rattle.trace_walks.specs.Walking.{RunningStands, WalkStands, entry_of}
-use Rattle.trace_walks.proofs.Going.{heard_last, heard_more}
+use Rattle.trace_walks.specs.Walking.{WalkStands, entry_of}
+use Rattle.trace_walks.proofs.Going.{heard_last, heard_on}
 use Rattle.trace_walks.proofs.walk.Walk.hear.Goals as goal
-use Rattle.trace_walks.proofs.walk.Walk.hear.Goals.{then-is_over+in-Some-1, then-is_over+in-None-1, else-is_over+in-Some, else-is_over+in_default}
+use Rattle.trace_walks.proofs.walk.Walk.hear.Goals.{then-is_over, else-is_over}
 
 pub returns : goal.returns
 returns c = λ k h other running stands.
@@ -15,17 +14,11 @@ returns c = λ k h other running stands.
     let asked = c.accepted_point-self.result in
     let held = c.holds_back-self.result in
     let After : Walk → Type 0 = λ x. WalkStands t p k (entry_of k d ∷ h) (record { running = x.running; asked = asked; held = held }) in
-    let last = λ (over : c.is_over.result ≡ true). heard_last t p k h d asked held c.accepted_point-self.ensures c.holds_back-self.ensures (sym c.is_over.ensures ∙ over) in
     elim c.if-is_over.branch [
-      | then-is_over+in-Some-1 w ↦ subst After (sym w.self-is) (last w.if-is_over.true)
-      | then-is_over+in-None-1 w ↦ subst After (sym w.self-is) (last w.if-is_over.true)
-      | else-is_over+in-Some w ↦
-          let before : Running = w.in-Some.running in
-          let after : Running = record { event = before.event; frame = w.feed.new.self } in
-          let was = subst (RunningStands t k h) w.in-Some.is stands.running in
+      | then-is_over w ↦
+          let last = heard_last t p k h d asked held c.accepted_point-self.ensures c.holds_back-self.ensures (sym c.is_over.ensures ∙ w.if-is_over.true) in
+          subst After (sym w.self-is) (subst (λ o. WalkStands t p k (entry_of k d ∷ h) (record { running = o; asked = asked; held = held })) (sym w.end.ensures) last)
+      | else-is_over w ↦
           subst After (sym w.self-is)
-          (heard_more t p k h d asked held c.accepted_point-self.ensures c.holds_back-self.ensures (sym c.is_over.ensures ∙ w.if-is_over.false) other before after refl w.feed.ensures.stands was)
-      | else-is_over+in_default w ↦
-          let none = subst (RunningStands t k h) w.in_default.is stands.running in
-          absurd (false≢true (sym none ∙ running))
+          (heard_on t p k h d asked held c.accepted_point-self.ensures c.holds_back-self.ensures (sym c.is_over.ensures ∙ w.if-is_over.false) other running c.args.self.now.running w.hear.new.self w.hear.ensures stands.running)
     ]
