@@ -1,7 +1,8 @@
 -- What of the cores is awake, once an event that has started sleeps.
-use Rattle.std.proofs.Common.{◌≡◌, ℕ, false, refl, sym, ◌∙◌, ap, subst, List, map, length-set, set, Option, Some, None}
+use Rattle.std.proofs.Common.{◌≡◌, ℕ, false, sym, ◌∙◌, ap, subst, List, map, length-set, set, Option, Some, None}
 use Rattle.std.specs.Prelude.{Vec}
-use Rattle.bus_semantics.specs.Common.{option_map, slice_get, slice_get-map, same_Some, Global, Value, Noted, touched_by, Plan, kind_of, object_of_kind, runnable_of_event, option_list, plain_key, start_try, to_start}
+use Rattle.bus_semantics.specs.Common.{option_map, slice_get, slice_get-map, same_Some, Global, Value, Noted, touched_by, Plan, kind_of, object_of_kind}
+use Rattle.bus_semantics.specs.Common.{runnable_of_event, option_list, plain_key, start_try, to_start}
 use Rattle.bus_semantics.specs.declared.entries.Actor.TheVariants.{Act}
 use Rattle.bus_semantics.specs.declared.entries.Deed.{Deed}
 use Rattle.bus_semantics.specs.declared.entries.Deed.TheVariants.{Start}

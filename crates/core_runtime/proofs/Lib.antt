@@ -19,5 +19,6 @@ pub mod InOrder
 pub mod Rounded
 pub mod Known
 pub mod Ticking
+pub mod Quiet
 pub mod Together
 pub mod Parting

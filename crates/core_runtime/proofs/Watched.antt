@@ -37,6 +37,10 @@ not_so true b e seen = absurd (false≢true (sym e))
 not_so false true e seen = absurd (false≢true seen)
 not_so false false e seen = refl
 
+slept_before : (a b : Bool) → (a ≡ true → b ≡ true) → b ≡ false → a ≡ false
+slept_before true b keeps off = absurd (false≢true (sym off ∙ keeps refl))
+slept_before false b keeps off = refl
+
 -- an item of a mapped list comes of one
 pub record Mapped (X Y : Type 0) (f : X → Y) (xs : List X) (i : ℕ) (y : Y) : Type 0 where
   pub item : X
@@ -105,7 +109,7 @@ module _ (nowhere : NowhereLaw) (p : Plan) (before later : List Object) (e : Not
       of_runnable (Some k) held = (at_object nowhere p before later e t event k (calm k) (object_of_kind p (kind_of p event)) held.0, tt)
 
 -- a machine that the entry does not touch
-machine_moved : (p : Plan) (before later : List Object) (e : Noted) (machine : ℕ) → IsAfter p before later e → (touched_by p e ≡ machine_object p (Some machine) → ⊥) → AllHeld p before ((Machine machine, to_move_on) ∷ []) → AllHeld p later ((Machine machine, to_move_on) ∷ [])
+pub machine_moved : (p : Plan) (before later : List Object) (e : Noted) (machine : ℕ) → IsAfter p before later e → (touched_by p e ≡ machine_object p (Some machine) → ⊥) → AllHeld p before ((Machine machine, to_move_on) ∷ []) → AllHeld p later ((Machine machine, to_move_on) ∷ [])
 machine_moved p before later e machine (inl none) apart held = subst (λ os. AllHeld p os ((Machine machine, to_move_on) ∷ [])) (sym none.1) held
 machine_moved p before later e machine (inr t) apart held = (
   record {
@@ -117,6 +121,16 @@ machine_moved p before later e machine (inr t) apart held = (
   },
   tt,
 )
+
+-- no phase comes of a machine whose slot sleeps
+abbrev pub PhasesStay : Plan → (before later : List Object) → List CoreState → List AwakeState → Type 0
+PhasesStay p before later cores awake = (i j machine : ℕ) (c : CoreState) (a : AwakeState) → slice_get cores i ≡ Some c → slice_get awake i ≡ Some a → slice_get c.slots j ≡ Some (kind.Machine machine) → get_or a.slots j false ≡ false
+    → AllHeld p before ((Machine machine, to_move_on) ∷ []) → AllHeld p later ((Machine machine, to_move_on) ∷ [])
+
+-- so it is if the slot of the machine that is touched is awake
+pub roused_phases : (p : Plan) (before later : List Object) (e : Noted) (cores : List CoreState) (awake : List AwakeState) → IsAfter p before later e → AreRoused p e cores awake → PhasesStay p before later cores awake
+roused_phases p before later e cores awake after roused = λ i j machine c a core_is awake_is slot_is sleeps held.
+    machine_moved p before later e machine after (λ touching. false≢true (sym sleeps ∙ roused i j machine c a core_is awake_is slot_is touching)) held
 
 -- ---- callers
 
@@ -175,7 +189,7 @@ deaf_moved deaf comes p ts before later e s d (inr t) calm =
 -- ---- all cores
 
 module _ (nowhere : NowhereLaw) (others : OthersLaw) (p : Plan) (before later : List Object) (e : Noted) (cores : List CoreState) (old new : List AwakeState) (seats : List (Vec Seat Global))
-    (seated : AreSeated (tables_of cores) seats) (woken : AreWoken old new) (roused : AreRoused p e cores old) (deaf : DeafLaw) (comes : ComesLaw) (ts : TaskSet) (answered : AreAnswered p ts before later e cores old) where
+    (seated : AreSeated (tables_of cores) seats) (woken : AreWoken old new) (phases : PhasesStay p before later cores old) (deaf : DeafLaw) (comes : ComesLaw) (ts : TaskSet) (answered : AreAnswered p ts before later e cores old) where
   -- each seat of the events that its object tells was looked at
   abbrev pub IsLookedAt : Touches p before later e → Type 0
   IsLookedAt t = (event : ℕ) (s : Seat) → Contains (woken_in t.new) event → IsAt seats event s → IsSeen (kept_of t.new) new event s
@@ -228,12 +242,6 @@ module _ (nowhere : NowhereLaw) (others : OthersLaw) (p : Plan) (before later : 
   same_moves : later ≡ before → Moves
   same_moves same = λ n c b core_is awake_is i j event s slot_is place_is sleeps held. subst (λ os. AllHeld p os (start_try p event)) (sym same) held
 
-  -- the machine that it touches does not sleep
-  machine_apart : (n i machine : ℕ) (c : CoreState) (a b : AwakeState) → slice_get cores n ≡ Some c → slice_get old n ≡ Some a → IsWoken a b → slice_get c.slots i ≡ Some (kind.Machine machine) → slice_get b.slots i ≡ Some false
-      → touched_by p e ≡ machine_object p (Some machine) → ⊥
-  machine_apart n i machine c a b core_is was_is one slot_is sleeps touching =
-      false≢true (sym (get_or_from_slice_get b.slots i false false sleeps) ∙ one.slots i (roused n i machine c a core_is was_is slot_is touching))
-
   module _ (moves : Moves) (after : IsAfter p before later e) (n : ℕ) (c : CoreState) (a b : AwakeState) (core_is : slice_get cores n ≡ Some c) (was_is : slice_get old n ≡ Some a) (awake_is : slice_get new n ≡ Some b) (one : IsWoken a b) where
     module _ (starts : StartsHeld p ts before c.slots b) where
       events_on : (i j event : ℕ) (s : Slot) (row : List Bool) → slice_get c.slots i ≡ Some s → slice_get b.events i ≡ Some row → slice_get (events_of_slot s) j ≡ Some event → slice_get row j ≡ Some false → AllHeld p later (start_try p event)
@@ -252,7 +260,7 @@ module _ (nowhere : NowhereLaw) (others : OthersLaw) (p : Plan) (before later : 
           of_slot : (s : Slot) → slice_get c.slots i ≡ Some s → AllHeld p before (idle_tries p s) → AllHeld p later (idle_tries p s)
           of_slot (kind.Task x) is held =
               held_each p before later x.events.items (λ j event place_is. moves n c b core_is awake_is i j event (kind.Task x) is place_is (and_left (get_or b.slots i false) (get_or (get_or b.events i []) j false) flag)) held
-          of_slot (kind.Machine machine) is held = machine_moved p before later e machine after (machine_apart n i machine c a b core_is was_is one is sleeps) held
+          of_slot (kind.Machine machine) is held = phases n i machine c a core_is was_is is (slept_before (get_or a.slots i false) (get_or b.slots i false) (one.slots i) flag) held
 
           of_quiet : IsQuiet p ts before s → IsQuiet p ts later s
           of_quiet (inl free) = inl (free.0, of_slot s slot_is free.1)

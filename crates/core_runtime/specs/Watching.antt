@@ -1,6 +1,8 @@
 -- What of the cores may step, and where the events stand on them.
 use Rattle.std.specs.Prelude.{◌≡◌, ◌<◌, ◌+◌, ◌⊎◌, ℕ, List, [], map, length, set, slice_get, slice_index_or, Bool, true, false, not, ◌&&◌, ◌||◌, Option, Some, None, Vec}
 use Rattle.bus_semantics.specs.Common.{Global, Contains, Plan, runnable_of_event, Noted, touched_by, machine_object}
+use Rattle.bus_semantics.specs.declared.entries.Deed.{Deed}
+use Rattle.bus_semantics.specs.declared.entries.Deed.TheVariants as deed
 use Rattle.port_objects.specs.declared.object.Object.{Object}
 use Rattle.port_objects.specs.Common.{Kept, lead, kept_of, may_start_in, heard_in, Tells, TellsPoint}
 use Rattle.task_machine.specs.declared.instr.TaskSet.{TaskSet}
@@ -210,3 +212,18 @@ AreAnswered p t before later n cores awake = (x : Touches p before later n) (i j
 -- or it touches none
 abbrev pub IsAfter : Plan → (before later : List Object) → Noted → Type 0
 IsAfter p before later n = ((touched_by p n ≡ None) × (later ≡ before)) ⊎ Touches p before later n
+
+-- ---- entries that wake nobody
+
+-- what takes a value or a mode as it stands, drops a value or enters an area: it makes no start come, moves no machine, returns to no caller
+-- and opens no area (SWS_RTE: Rte_Read, Rte_IsUpdated, Rte_Invalidate, Rte_Receive, Rte_Mode, Rte_Enter)
+abbrev pub is_quiet : Deed → Bool
+is_quiet (deed.Fetch x value) = true
+is_quiet (deed.Read x code value) = true
+is_quiet (deed.IsUpdated x updated) = true
+is_quiet (deed.Invalidate x) = true
+is_quiet (deed.Receive x code value) = true
+is_quiet (deed.FetchAll l value) = true
+is_quiet (deed.Enter area) = true
+is_quiet (deed.Mode port mode) = true
+is_quiet _ = false

@@ -23,7 +23,8 @@ impl<'a> Round<'a> {
         requires room { 1024 ≤ self.old.room }
         requires empty { self.old.entries ≡ [] }
         ensures later { IsLater self.old self.new }
-        ensures end { (length self.new.entries ≡ 1024) ⊎ NothingMayCome (plan_of self.new.plan) self.new.bodies self.new.cores self.new.objects }
+        ensures end { (length self.new.entries ≡ 1024)
+            ⊎ NothingMayCome (plan_of self.new.plan) self.new.bodies self.new.cores self.new.objects }
     {
         for turns in 0..1024u32 {
             gate.pass(0);

@@ -31,8 +31,9 @@
 //! disables) wakes that machine, which is tried once more: to see whether it made the phase come would cost what the try does. A
 //! server keeps to which point the last Return went, and not who waits. So a Return wakes each task in which an event of the
 //! caller stands, whether it waits or not, and each entry on the server up to the next Return does so again, for one try in vain.
-//! Other entries wake nothing; the environment enters no area, so its calls wake only events. A turn finds what is awake by words
-//! of 64 places, and these by a word for each 4,096.
+//! Other entries wake nothing; the environment enters no area, so its calls wake only events. For what takes a value or a mode as it
+//! stands, drops a value or enters an area that is known by its deed alone, and what it touches is not looked up. A turn finds what is
+//! awake by words of 64 places, and these by a word for each 4,096.
 //!
 //! **Why are ticks made apart?** A tick is the one call whose entry is always the same, and scripts have many. `Node::tick` makes it without
 //! an entry, and wakes the events that the clock tells. No contract of it says less than that of `environment`.

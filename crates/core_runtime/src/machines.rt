@@ -15,7 +15,8 @@ use port_objects::machine_of;
 /// The slot of the machine whose object this is, on a core with so many slots. Machines stand behind the tasks.
 fn slot_of_machine(p: &BusPlan, object: u32, slots: usize) -> Option<usize>
     ensures within { IfSome result (λ at. at < slots) }
-    ensures slot { (machine at : ℕ) → object ≡ first_machine (plan_of p.now) + machine → at + length p.now.machines ≡ slots + machine → at < slots → result ≡ Some at }
+    ensures slot { (machine at : ℕ) → object ≡ first_machine (plan_of p.now) + machine
+        → at + length p.now.machines ≡ slots + machine → at < slots → result ≡ Some at }
 {
     let machines = p.machines.len();
     match machine_of(p, object) {

@@ -23,7 +23,8 @@ impl<'a> Round<'a> {
         requires empty { self.old.entries ≡ [] }
         ensures later { IsLater self.old self.new }
         ensures few { length self.new.entries ≤ length self.old.cores }
-        ensures order { EachTakesOne (plan_of self.old.plan) self.old.bodies self.old.cores self.new.cores self.old.objects self.new.objects self.new.entries }
+        ensures order { EachTakesOne (plan_of self.old.plan) self.old.bodies self.old.cores self.new.cores
+            self.old.objects self.new.objects self.new.entries }
         ensures rest { self.new.entries ≡ [] → NothingMayCome (plan_of self.old.plan) self.old.bodies self.old.cores self.old.objects }
     {
         for number in 0..self.cores.len() {

@@ -42,7 +42,8 @@ fn seat_task(
 
 /// Adds the seats of a core, whose events each have a list.
 fn seat_core(seats: &mut Vec<Vec<Seat>>, core: &Core, number: usize) -> Result<(), Memory>
-    requires { (i : ℕ) (events : List ℕ) → slice_get (map events_of_slot core.now.slots) i ≡ Some events → All (λ e. e < length seats.old.items) events }
+    requires { (i : ℕ) (events : List ℕ) → slice_get (map events_of_slot core.now.slots) i ≡ Some events
+        → All (λ e. e < length seats.old.items) events }
     ensures { OnOk result (Adds (IsOfCore (map events_of_slot core.now.slots) number) seats.old.items seats.new.items) }
 {
     for slot in 0..core.slots() {

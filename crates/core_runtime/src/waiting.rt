@@ -35,9 +35,11 @@ fn wake_first_of_each(object: u32, awake: &mut Vec<Awake>)
 /// entry lets anybody in.
 pub(crate) fn wake_waiting(deed: &Deed, touched: Option<u32>, awake: &mut Vec<Awake>)
     requires even { AreEven awake.old.items }
-    ensures starts { (p : Plan) (t : TaskSet) (objects : List Object) (cores : List CoreState) → AreWatched p t objects cores awake.old.items → AreWatched p t objects cores awake.new.items }
-    ensures waiting { (p : Plan) (n : Noted) (t : TaskSet) (cores : List CoreState) (before later : List Object) → n.entry.deed ≡ deed.now → touched ≡ touched_by p n
-        → IsAfter p before later n → AreWaiting p t before touched cores awake.old.items → AreWaiting p t later None cores awake.new.items }
+    ensures starts { (p : Plan) (t : TaskSet) (objects : List Object) (cores : List CoreState)
+        → AreWatched p t objects cores awake.old.items → AreWatched p t objects cores awake.new.items }
+    ensures waiting { (p : Plan) (n : Noted) (t : TaskSet) (cores : List CoreState) (before later : List Object)
+        → n.entry.deed ≡ deed.now → touched ≡ touched_by p n → IsAfter p before later n
+        → AreWaiting p t before touched cores awake.old.items → AreWaiting p t later None cores awake.new.items }
 {
     waiters_sleep_on();
     if !leaves(deed) {

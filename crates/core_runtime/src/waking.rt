@@ -6,7 +6,8 @@ ghost use Rattle.port_objects.specs.declared.object.Object.{Object};
 ghost use Rattle.port_objects.specs.Common.{kept_of, tick_of_env};
 ghost use Rattle.task_machine.specs.declared.instr.TaskSet.{TaskSet};
 ghost use Rattle.core_turn.specs.Cores.{CoreState};
-ghost use Rattle.core_runtime.specs.Watching.{AreAnswered, AreRoused, AreSeated, AreWatched, AreWoken, IsAfter, IsAt, IsSeen, IsThere, IsWatch, tables_of};
+ghost use Rattle.core_runtime.specs.declared.watch.Watch.{Watch};
+ghost use Rattle.core_runtime.specs.Watching.{AreAnswered, AreRoused, AreSeated, AreWatched, AreWoken, IsAfter, IsAt, IsSeen, IsThere, IsWatch, is_quiet, tables_of};
 
 use crate::callers::wake_caller;
 use crate::machines::wake_machine;
@@ -63,7 +64,8 @@ fn wake_events(object: &Object, events: &[u32], w: &mut Watch)
     ensures seats { w.new.seats ≡ w.old.seats }
     ensures starters { w.new.starters ≡ w.old.starters }
     ensures woken { AreWoken w.old.awake.items w.new.awake.items }
-    ensures seen { (e : ℕ) (s : Seat) → Contains events.now e → IsAt w.old.seats.items e s → IsSeen (kept_of object.now) w.new.awake.items e s }
+    ensures seen { (e : ℕ) (s : Seat) → Contains events.now e → IsAt w.old.seats.items e s
+        → IsSeen (kept_of object.now) w.new.awake.items e s }
 {
     for event in events {
         wake_event(object, *event, w);
@@ -76,8 +78,9 @@ fn wake_starts(deed: &Deed, touched: Option<u32>, objects: &[Object], w: &mut Wa
     ensures seats { w.new.seats ≡ w.old.seats }
     ensures starters { w.new.starters ≡ w.old.starters }
     ensures woken { AreWoken w.old.awake.items w.new.awake.items }
-    ensures starts { (p : Plan) (n : Noted) (t : TaskSet) (cores : List CoreState) (before : List Object) → n.entry.deed ≡ deed.now → touched ≡ touched_by p n
-        → IsAfter p before objects.now n → AreRoused p n cores w.old.awake.items → AreAnswered p t before objects.now n cores w.old.awake.items
+    ensures starts { (p : Plan) (n : Noted) (t : TaskSet) (cores : List CoreState) (before : List Object)
+        → n.entry.deed ≡ deed.now → touched ≡ touched_by p n → IsAfter p before objects.now n
+        → AreRoused p n cores w.old.awake.items → AreAnswered p t before objects.now n cores w.old.awake.items
         → AreSeated (tables_of cores) w.old.seats.items → AreWatched p t before cores w.old.awake.items → AreWatched p t objects.now cores w.new.awake.items }
 {
     held_starts_lead_nowhere();
@@ -93,6 +96,34 @@ fn wake_starts(deed: &Deed, touched: Option<u32>, objects: &[Object], w: &mut Wa
     }
 }
 
+/// Whether an entry of this deed wakes nobody: it takes a value or a mode as it stands, drops a value or enters an area.
+fn is_quiet(deed: &Deed) -> bool
+    ensures { result ≡ is_quiet deed.now }
+{
+    match deed {
+        Deed::Fetch { .. }
+        | Deed::Read { .. }
+        | Deed::IsUpdated { .. }
+        | Deed::Invalidate { .. }
+        | Deed::Receive { .. }
+        | Deed::FetchAll { .. }
+        | Deed::Enter { .. }
+        | Deed::Mode { .. } => true,
+        _ => false,
+    }
+}
+
+/// After such an entry what sleeps may sleep on: no start, phase or answer came by it, and nobody may enter an area who could not before.
+fn quiet_entries_wake_nobody()
+    ensures { (p : Plan) (n : Noted) (t : TaskSet) (cores : List CoreState) (before later : List Object) (w : Watch)
+        → is_quiet n.entry.deed ≡ true → IsAfter p before later n → IsWatch p t before (touched_by p n) cores w → IsWatch p t later None cores w }
+{
+    held_starts_lead_nowhere();
+    answers_go_by_flags();
+    other_entries_wake_nothing();
+    waiters_sleep_on();
+}
+
 /// Wakes what an entry, after which the objects are these, may make come: the next phase of the machine that it touches, the Answer of
 /// the caller to whose point it returned, starts, and after a Leave those who may enter the area. The event of a start that may not come
 /// again sleeps.
@@ -105,10 +136,17 @@ pub(crate) fn wake_after(
     w: &mut Watch,
 )
     requires within { IfSome (touched_by (plan_of p.now) (record { entry = entry.now; event = event })) (IsObject (plan_of p.now)) }
-    requires watched { (t : TaskSet) × (cores : List CoreState) × (before : List Object) × AreWatched (plan_of p.now) t before cores w.old.awake.items × AreSeated (tables_of cores) w.old.seats.items }
-    ensures { (t : TaskSet) (cores : List CoreState) (before : List Object) → IsAfter (plan_of p.now) before objects.now (record { entry = entry.now; event = event })
-        → IsWatch (plan_of p.now) t before (touched_by (plan_of p.now) (record { entry = entry.now; event = event })) cores w.old → IsWatch (plan_of p.now) t objects.now None cores w.new }
+    requires watched { (t : TaskSet) × (cores : List CoreState) × (before : List Object)
+        × AreWatched (plan_of p.now) t before cores w.old.awake.items × AreSeated (tables_of cores) w.old.seats.items }
+    ensures { (t : TaskSet) (cores : List CoreState) (before : List Object)
+        → IsAfter (plan_of p.now) before objects.now (record { entry = entry.now; event = event })
+        → IsWatch (plan_of p.now) t before (touched_by (plan_of p.now) (record { entry = entry.now; event = event })) cores w.old
+        → IsWatch (plan_of p.now) t objects.now None cores w.new }
 {
+    if is_quiet(&entry.deed) {
+        quiet_entries_wake_nobody();
+        return;
+    }
     let touched = touched_object(p, entry, event);
     wake_machine(p, touched, &mut w.awake);
     wake_caller(p, touched, objects, w);

@@ -1,4 +1,4 @@
-use Rattle.std.proofs.Common.{◌≡◌, refl, sym, subst, arith, List, None}
+use Rattle.std.proofs.Common.{refl, sym, subst, arith, List}
 use Rattle.bus_semantics.specs.Plan.{plan_of}
 use Rattle.bus_semantics.specs.declared.entries.Stamped.{Stamped}
 use Rattle.core_turn.specs.Cores.{CoreState}

@@ -7,6 +7,11 @@ use Rattle.core_runtime.proofs.Wakes.{are_then, there_still}
 use Rattle.core_runtime.proofs.Watched.{seats_there}
 use Rattle.core_runtime.proofs.waking.wake_after.Goals as goal
 
+pub returns-then-is_quiet : goal.returns-then-is_quiet
+returns-then-is_quiet c = λ t cores before after watch.
+    let note : Noted = record { entry = c.args.entry.now; event = c.args.event } in
+    c.quiet_entries_wake_nobody.ensures (plan_of c.args.p.now) note t cores before c.args.objects.now c.args.w.now (sym c.if-is_quiet.ensures) after watch
+
 pub wake_machine-requires : goal.wake_machine-requires
 wake_machine-requires c = let r = c.requires.watched in record { even = watched_even (plan_of c.args.p.now) r.0 r.2 r.1 c.args.w.now.awake.items r.3 }
 
