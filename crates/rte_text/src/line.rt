@@ -1,6 +1,6 @@
 //! A line of fixed room.
 
-ghost use Rattle.std.specs.Prelude.{◌≡◌, ◌+◌, ◌≤◌, ◌↔◌, [], ◌++◌, length, take, IsTrue, if◌then◌else◌};
+ghost use Rattle.std.specs.Prelude.{◌≡◌, ◌+◌, ◌≤◌, ◌↔◌, [], ◌++◌, length, IsTrue, if◌then◌else◌};
 ghost use Rattle.std.specs.Fmt.{signed_decimal};
 
 use arrayvec::ArrayVec;
@@ -60,13 +60,6 @@ impl LineBuf {
         ensures within_limit { length result.now ≤ 2048 }
     {
         self.held.as_slice()
-    }
-
-    /// Keeps the first bytes, so many, or all if there are no more.
-    pub fn truncate(&mut self, count: usize)
-        ensures { self.new ≡ take count self.old }
-    {
-        self.held.truncate(count);
     }
 
     /// Makes the line empty.
